@@ -1,0 +1,10 @@
+pub mod Flips
+pub mod Carded
+pub mod Pairs
+pub mod Places
+pub mod Agrees
+pub mod Follows
+pub mod Scans
+pub mod Answered
+pub mod Counts
+pub mod Tallies

@@ -1,0 +1,5 @@
+pub mod Marks
+pub mod Spaces
+pub mod Stands
+pub mod Reading
+pub mod Summing

@@ -1,0 +1,5 @@
+pub mod Records
+pub mod Sections
+pub mod Grammar
+pub mod Rules
+pub mod Theorems

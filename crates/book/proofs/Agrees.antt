@@ -149,11 +149,11 @@ or-swap false false = refl
 pub said-swap : (ps : List (ℕ × ℕ)) (a b : ℕ) → saidPair ps a b ≡ saidPair ps b a
 said-swap ps a b = λ i. anyOf (λ p. or-swap (eqb (p .0) a && eqb (p .1) b) (eqb (p .0) b && eqb (p .1) a) i) ps
 
-same-own : (a b c d : ℕ) → ((a ≡ c) × (b ≡ d)) ⊎ ((a ≡ d) × (b ≡ c)) → samePair c d (a, b) ≡ true
+pub same-own : (a b c d : ℕ) → ((a ≡ c) × (b ≡ d)) ⊎ ((a ≡ d) × (b ≡ c)) → samePair c d (a, b) ≡ true
 same-own a b c d (inl h) = or-left (eqb a c && eqb b d) (eqb a d && eqb b c) (and-from _ _ (eq-eqb a c (h .0)) (eq-eqb b d (h .1)))
 same-own a b c d (inr h) = or-right (eqb a c && eqb b d) (eqb a d && eqb b c) (and-from _ _ (eq-eqb a d (h .0)) (eq-eqb b c (h .1)))
 
-same-had : (a b c d : ℕ) → samePair c d (a, b) ≡ true → ((a ≡ c) × (b ≡ d)) ⊎ ((a ≡ d) × (b ≡ c))
+pub same-had : (a b c d : ℕ) → samePair c d (a, b) ≡ true → ((a ≡ c) × (b ≡ d)) ⊎ ((a ≡ d) × (b ≡ c))
 same-had a b c d e = elim (or-cases _ _ e) [
   | inl h ↦ (let p = and-parts _ _ h in inl (eqb-true a c (p .0), eqb-true b d (p .1)))
   | inr h ↦ (let p = and-parts _ _ h in inr (eqb-true a d (p .0), eqb-true b c (p .1)))
@@ -198,12 +198,15 @@ module _ (cs : List Card) (es : List IndexRecord) (few : length cs ≤ 256) (k :
       lv : v < 256
       lv = let p = place-found cs b v eb in omega (arith, p .0)
 
+      enough : 4080 ≤ length ms
+      enough = omega (arith, m .whole)
+
       at : (x y : ℕ) → x < y → y < 256 → (t : Bool) → samePair (stampAt cs x) (stampAt cs y) (a, b) ≡ t → marked (toggled ms u v) x y ≡ saidPair (ps ++ (a, b) ∷ []) (stampAt cs x) (stampAt cs y)
       at x y l ly true t =
-          toggled-own ms u v (m .whole) lu lv ne x y l (pair-places cs n a b u v za zb ea eb x y t) ∙ ap not unset
+          toggled-own ms u v enough lu lv ne x y l (pair-places cs n a b u v za zb ea eb x y t) ∙ ap not unset
           ∙ sym (push-true (samePair (stampAt cs x) (stampAt cs y)) ps (a, b) t)
       at x y l ly false t =
-          toggled-other ms u v (m .whole) lu lv ne x y l (λ s. clash (sym (places-pair cs n a b u v za zb ea eb x y s) ∙ t)) ∙ m .pairs x y l ly
+          toggled-other ms u v enough lu lv ne x y l (λ s. clash (sym (places-pair cs n a b u v za zb ea eb x y s) ∙ t)) ∙ m .pairs x y l ly
           ∙ sym (push-false (samePair (stampAt cs x) (stampAt cs y)) ps (a, b) t)
 
   -- the places are one exactly where the stamps are

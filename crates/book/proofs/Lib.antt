@@ -6,5 +6,4 @@ pub mod Agrees
 pub mod Follows
 pub mod Scans
 pub mod Answered
-pub mod Counts
-pub mod Tallies
+pub mod Changed

@@ -2,4 +2,4 @@ pub mod Marks
 pub mod Spaces
 pub mod Stands
 pub mod Reading
-pub mod Summing
+pub mod Changes

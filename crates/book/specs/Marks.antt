@@ -1,5 +1,5 @@
 -- Pair marks: one bit for each two of 256 places, and no other; the pair of u below v has number v(v - 1)/2 + u.
-use mathlib.Core.Bool.{Bool, cond}
+use mathlib.Core.Bool.{Bool, false, cond}
 use mathlib.Core.List.{List}
 use Prim.Native.Nat.{ℕ, _+_, _-_, _*_, _/_, _%_, _^_}
 use lib.Bits.{bitXor}
@@ -25,3 +25,7 @@ marked ms u v = bitAt ms (bitOf u v)
 -- the marks with that of two places turned
 abbrev pub toggled : List ℕ → ℕ → ℕ → List ℕ
 toggled ms u v = flipped ms (bitOf u v)
+
+-- whether two places are marked, for any two numbers: a pair has two different places below 256
+abbrev pub tells : List ℕ → ℕ → ℕ → Bool
+tells ms u v = cond (ltb u 256) (cond (ltb v 256) (cond (eqb u v) false (marked ms u v)) false) false

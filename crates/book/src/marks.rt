@@ -1,7 +1,7 @@
 //! Pair marks: which two places are partners, one bit for each pair. Only this file knows which bit that is.
 
 ghost use Prim.Native.Nat.{_/_, _<_, _≤_};
-ghost use Rattle.book.specs.Marks.{bitAt, bitOf, flipped, marked, toggled};
+ghost use Rattle.book.specs.Marks.{bitAt, bitOf, flipped, tells, toggled};
 ghost use lib.ListN.{length};
 ghost use mathlib.Core.Path.{_≡_};
 
@@ -32,12 +32,21 @@ fn flip(marks: &mut [u8], bit: usize)
     marks[bit / 8] ^= 1 << (bit % 8);
 }
 
-// Whether the marks tell that two places are partners.
-pub(crate) fn is_marked(marks: &[u8], u: usize, v: usize) -> bool
-    requires { ⌜ u < 256 ⌝ ∗ ⌜ v < 256 ⌝ ∗ ⌜ (u ≡ v → ⊥) ⌝ ∗ ⌜ 4080 ≤ length (now marks) ⌝ }
-    ensures { λ r. ⌜ r ≡ marked (now (marks .entry)) u v ⌝ }
+/// Whether the marks tell that two places are partners. There is no pair of a place with itself or from place 256 on,
+/// and marks that are not lent tell none.
+pub fn is_marked(marks: &[u8], u: usize, v: usize) -> bool
+    ensures { λ r. ⌜ r ≡ tells (now (marks .entry)) u v ⌝ }
 {
-    is_set(marks, pair_bit(u, v))
+    if u < 256 && v < 256 && u != v {
+        let bit = pair_bit(u, v);
+        if bit / 8 < marks.len() {
+            is_set(marks, bit)
+        } else {
+            false
+        }
+    } else {
+        false
+    }
 }
 
 // Turns the mark of two places: partners are none then, and others are.

@@ -1,11 +1,11 @@
 //! `bookcheck` reads a roll book on standard input and tells what it holds, or the first thing that is wrong with it.
 
-use book::SummaryDisplay;
-use book::check;
 use refusal::RefusalDisplay;
 use std::error::AnyError;
 use std::io;
 use std::io::Read;
+use summary::SummaryDisplay;
+use summary::check;
 
 // One byte more than a book may have is enough to tell that it is too long.
 const MOST: u64 = 65537;

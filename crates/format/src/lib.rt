@@ -15,4 +15,5 @@ pub use card::RulePartialEq;
 pub use records::Record;
 pub use records::Section;
 pub use records::decode;
+pub use records::stamp_in_range;
 pub use theorems::reads_exactly;

@@ -78,7 +78,8 @@ pub fn decode(part: &[u8]) -> Result<(Record, usize), Reason>
     }
 }
 
-fn stamp_in_range(stamp: u16) -> bool
+/// Whether the number may be a stamp, 1 to 9,999.
+pub fn stamp_in_range(stamp: u16) -> bool
     ensures { λ r. ⌜ r ≡ stampOk stamp ⌝ }
 {
     1 <= stamp && stamp <= 9999

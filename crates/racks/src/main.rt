@@ -1,28 +1,12 @@
-//! Reads every book of a list, and prints what came of each. The stored output was worked out by hand.
+//! Runs the library on books, lists and changes, and prints what came of each. The stored output was worked out by hand.
 
-use book::IndexRecord;
-use book::SummaryDisplay;
-use book::check;
-use book::read;
-use format::Card;
+mod books;
+mod changes;
+mod tables;
+
 use refusal::Refusal;
 use refusal::RefusalDisplay;
 use std::error::AnyError;
-use std::fs;
-
-const NO_CARD: Card = Card {
-    stamp: 0,
-    family: 0,
-    diameter: 0,
-    crown: 0,
-};
-
-const NO_INDEX: IndexRecord = IndexRecord { stamp: 0, place: 0 };
-
-fn book_bytes(rt: &LibcRuntime, name: &str) -> Result<Vec<u8>, AnyError> {
-    let path = format!(rt.alloc(), "{name}.book")?;
-    Ok(fs::read(rt, path.as_str())?)
-}
 
 fn print_refusal(rt: &LibcRuntime, refusal: Refusal) -> Result<(), AnyError> {
     let below = refusal.below_number();
@@ -30,50 +14,10 @@ fn print_refusal(rt: &LibcRuntime, refusal: Refusal) -> Result<(), AnyError> {
     Ok(())
 }
 
-// The verdict on one book.
-fn judge(rt: &LibcRuntime, name: &str) -> Result<(), AnyError> {
-    println!(rt, "-- {name}")?;
-    let bytes = book_bytes(rt, name)?;
-    match check(bytes.as_slice()) {
-        Ok(summary) => Ok(rt.println(summary)?),
-        Err(refusal) => print_refusal(rt, refusal),
-    }
-}
-
-// A reading into spaces of which one is a record or a byte too short.
-fn read_short(
-    rt: &LibcRuntime,
-    bytes: &[u8],
-    cards: usize,
-    marks: usize,
-    index: usize,
-) -> Result<(), AnyError> {
-    let mut card_space = vec![in rt.alloc(); NO_CARD; cards]?;
-    let mut mark_space = vec![in rt.alloc(); 0; marks]?;
-    let mut index_space = vec![in rt.alloc(); NO_INDEX; index]?;
-    println!(
-        rt,
-        "-- {cards} cards, {marks} mark bytes, {index} index records"
-    )?;
-    match read(bytes, &mut card_space, &mut mark_space, &mut index_space) {
-        Ok(open) => {
-            let rolls = open.count();
-            Ok(println!(rt, "read, {rolls} rolls")?)
-        }
-        Err(refusal) => print_refusal(rt, refusal),
-    }
-}
-
 fn run(rt: &LibcRuntime) -> Result<(), AnyError> {
-    let names = fs::read_to_string(rt, "books.txt")?;
-    for name in names.lines() {
-        judge(rt, name)?;
-    }
-    let bytes = book_bytes(rt, "rack-a")?;
-    read_short(rt, bytes.as_slice(), 256, 4080, 256)?;
-    read_short(rt, bytes.as_slice(), 255, 4080, 256)?;
-    read_short(rt, bytes.as_slice(), 256, 4079, 256)?;
-    read_short(rt, bytes.as_slice(), 256, 4080, 255)
+    books::run(rt)?;
+    changes::run(rt)?;
+    tables::run(rt)
 }
 
 fn main(rt: LibcRuntime) -> Result<(), AnyError> {

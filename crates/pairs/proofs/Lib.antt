@@ -1,0 +1,7 @@
+pub mod Parted
+pub mod Faults
+pub mod Standing
+pub mod Pigeons
+pub mod Chosen
+pub mod Listed
+pub mod Turns

@@ -10,6 +10,11 @@ pub struct IndexRecord {
     pub place: u8,
 }
 
+impl IndexRecord {
+    /// No record: stamp and place are 0.
+    pub const NONE: IndexRecord = IndexRecord { stamp: 0, place: 0 };
+}
+
 pub impl Keyed for IndexRecord as IndexRecordKeyed {
     type Key = u16;
 

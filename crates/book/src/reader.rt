@@ -21,8 +21,6 @@ use crate::marks::is_marked;
 use crate::marks::toggle;
 use crate::open::Notes;
 use crate::open::OpenBook;
-use crate::spaces::NO_CARD;
-use crate::spaces::NO_INDEX;
 use crate::spaces::clear;
 use crate::spaces::too_short;
 use format::Card;
@@ -294,9 +292,9 @@ impl Reader {
         ensures index { λ _. ⌜ now (index .exit) ≡ replicate (length (now (index .entry))) noIndex ⌝ }
     {
         *self = Reader::new();
-        clear(cards, NO_CARD);
+        clear(cards, Card::NONE);
         clear(marks, 0);
-        clear(index, NO_INDEX);
+        clear(index, IndexRecord::NONE);
     }
 
     // Reads every record; a refusal leaves the spaces zero and the reader as new.

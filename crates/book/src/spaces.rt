@@ -8,15 +8,6 @@ ghost use mathlib.Core.Path.{_≡_};
 use crate::index::IndexRecord;
 use format::Card;
 
-pub(crate) const NO_CARD: Card = Card {
-    stamp: 0,
-    family: 0,
-    diameter: 0,
-    crown: 0,
-};
-
-pub(crate) const NO_INDEX: IndexRecord = IndexRecord { stamp: 0, place: 0 };
-
 // Writes the same value everywhere.
 pub(crate) fn clear<T: Copy>(space: &mut [T], zero: T)
     ensures { λ _. ⌜ now (space .exit) ≡ replicate (length (now (space .entry))) zero ⌝ }

@@ -15,4 +15,3 @@ pub mod Listings
 pub mod Passes
 pub mod Barriers
 pub mod Shortcuts
-pub mod Pairs

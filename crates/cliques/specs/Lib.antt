@@ -5,4 +5,3 @@ pub mod Paths
 pub mod Listing
 pub mod Shortcuts
 pub mod Theorems
-pub mod Racks

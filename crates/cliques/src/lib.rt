@@ -9,7 +9,5 @@ pub use theorems::indices_hold;
 pub use theorems::lists_hold;
 pub use theorems::next_is_one;
 pub use theorems::paths_hold;
-pub use theorems::racks_hold;
-pub use theorems::racks_lawful;
 pub use theorems::shortcuts_hold;
 pub use theorems::tests_hold;

@@ -1,6 +1,5 @@
 //! One function for each theorem: its contract is the statement.
 
-ghost use Rattle.cliques.specs.Racks.{RacksHold, RacksLawful};
 ghost use Rattle.cliques.specs.Theorems.{ChildrenHold, ClimbsHold, CompletionsHold, IndicesHold, ListsHold, NextIsOne, PathsHold, ShortcutsHold, TestsHold};
 
 /// Each test that stands beside a definition (maximal clique, head, child, order of paths) passes exactly where the definition holds.
@@ -51,14 +50,4 @@ pub fn lists_hold()
 /// The tests that need no completion give what the definitions give.
 pub fn shortcuts_hold()
     ensures { λ _. ⌜ ShortcutsHold ⌝ }
-{}
-
-/// A graph given by pairs of two places below its size, at most 256, is lawful.
-pub fn racks_lawful()
-    ensures { λ _. ⌜ RacksLawful ⌝ }
-{}
-
-/// The definitions give the maximal cliques, completions, parent indices and paths that the worked racks tell.
-pub fn racks_hold()
-    ensures { λ _. ⌜ RacksHold ⌝ }
 {}

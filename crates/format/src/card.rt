@@ -13,6 +13,16 @@ pub struct Card {
     pub crown: i16,
 }
 
+impl Card {
+    /// No card: every field is 0.
+    pub const NONE: Card = Card {
+        stamp: 0,
+        family: 0,
+        diameter: 0,
+        crown: 0,
+    };
+}
+
 /// The tolerances of a rule: how far the diameters and the crowns of partners may differ.
 #[derive(Clone, Copy, PartialEq, Eq, Debug)]
 pub struct Rule {

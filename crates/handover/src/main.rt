@@ -12,15 +12,6 @@ use pairs::PairTable;
 use refusal::RefusalDisplay;
 use std::error::AnyError;
 
-const NO_CARD: Card = Card {
-    stamp: 0,
-    family: 0,
-    diameter: 0,
-    crown: 0,
-};
-
-const NO_INDEX: IndexRecord = IndexRecord { stamp: 0, place: 0 };
-
 // Two cards and the end.
 const BOOK: [u8; 21] = [
     0x01,
@@ -55,9 +46,9 @@ fn print_partners(rt: &LibcRuntime, book: &ClosedBook) -> Result<(), AnyError> {
 }
 
 fn run(rt: &LibcRuntime) -> Result<(), AnyError> {
-    let mut cards = [NO_CARD; 256];
+    let mut cards = [Card::NONE; 256];
     let mut marks = [0; 4080];
-    let mut index = [NO_INDEX; 256];
+    let mut index = [IndexRecord::NONE; 256];
     let open = match read(&BOOK, &mut cards, &mut marks, &mut index) {
         Ok(open) => open,
         Err(refusal) => return Ok(rt.println(refusal)?),

@@ -9,15 +9,6 @@ use std::fs;
 use summary::SummaryDisplay;
 use summary::check;
 
-pub(crate) const NO_CARD: Card = Card {
-    stamp: 0,
-    family: 0,
-    diameter: 0,
-    crown: 0,
-};
-
-pub(crate) const NO_INDEX: IndexRecord = IndexRecord { stamp: 0, place: 0 };
-
 pub(crate) fn book_bytes(rt: &LibcRuntime, name: &str) -> Result<Vec<u8>, AnyError> {
     let path = format!(rt.alloc(), "{name}.book")?;
     Ok(fs::read(rt, path.as_str())?)
@@ -41,9 +32,9 @@ fn read_short(
     marks: usize,
     index: usize,
 ) -> Result<(), AnyError> {
-    let mut card_space = vec![in rt.alloc(); NO_CARD; cards]?;
+    let mut card_space = vec![in rt.alloc(); Card::NONE; cards]?;
     let mut mark_space = vec![in rt.alloc(); 0; marks]?;
-    let mut index_space = vec![in rt.alloc(); NO_INDEX; index]?;
+    let mut index_space = vec![in rt.alloc(); IndexRecord::NONE; index]?;
     println!(
         rt,
         "-- {cards} cards, {marks} mark bytes, {index} index records"

@@ -1,9 +1,8 @@
 //! Changes of an open book, closing it, and each of their refusals.
 
-use crate::books::NO_CARD;
-use crate::books::NO_INDEX;
 use crate::books::book_bytes;
 use crate::print_refusal;
+use book::IndexRecord;
 use book::OpenBook;
 use book::read;
 use closed::close;
@@ -109,9 +108,9 @@ fn change_rule(
 
 pub(crate) fn run(rt: &LibcRuntime) -> Result<(), AnyError> {
     println!(rt, "-- changes")?;
-    let mut cards = [NO_CARD; 256];
+    let mut cards = [Card::NONE; 256];
     let mut marks = [0; 4080];
-    let mut index = [NO_INDEX; 256];
+    let mut index = [IndexRecord::NONE; 256];
     let bytes = book_bytes(rt, "unordered")?;
     match read(bytes.as_slice(), &mut cards, &mut marks, &mut index) {
         Ok(open) => change(rt, &mut cards, &mut marks, open)?,

@@ -2,6 +2,7 @@
 
 mod books;
 mod changes;
+mod sets;
 mod tables;
 
 use refusal::Refusal;
@@ -17,7 +18,8 @@ fn print_refusal(rt: &LibcRuntime, refusal: Refusal) -> Result<(), AnyError> {
 fn run(rt: &LibcRuntime) -> Result<(), AnyError> {
     books::run(rt)?;
     changes::run(rt)?;
-    tables::run(rt)
+    tables::run(rt)?;
+    sets::run(rt)
 }
 
 fn main(rt: LibcRuntime) -> Result<(), AnyError> {

@@ -1,15 +1,15 @@
 //! Pair tables of every kind: who is whose partner, and each refusal once.
 
-use crate::books::NO_CARD;
-use crate::books::NO_INDEX;
 use crate::books::book_bytes;
 use crate::print_refusal;
+use book::IndexRecord;
 use closed::ClosedBook;
 use closed::PairBookStamped;
 use closed::PairBookTable;
 use closed::RuleBookStamped;
 use closed::RuleBookTable;
 use closed::read_closed;
+use format::Card;
 use pairs::PairTable;
 use pairs::PartnerLists;
 use pairs::PartnerListsTable;
@@ -40,9 +40,9 @@ fn print_stamps<T: Stamped>(rt: &LibcRuntime, table: &T) -> Result<(), AnyError>
 fn print_book(rt: &LibcRuntime, name: &str) -> Result<(), AnyError> {
     println!(rt, "-- table of {name}")?;
     let bytes = book_bytes(rt, name)?;
-    let mut cards = [NO_CARD; 256];
+    let mut cards = [Card::NONE; 256];
     let mut marks = [0; 4080];
-    let mut index = [NO_INDEX; 256];
+    let mut index = [IndexRecord::NONE; 256];
     match read_closed(bytes.as_slice(), &mut cards, &mut marks, &mut index) {
         Ok(ClosedBook::Pairs(table)) => {
             print_stamps(rt, &table)?;

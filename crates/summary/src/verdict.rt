@@ -17,15 +17,6 @@ use closed::read_closed;
 use format::Card;
 use refusal::Refusal;
 
-const NO_CARD: Card = Card {
-    stamp: 0,
-    family: 0,
-    diameter: 0,
-    crown: 0,
-};
-
-const NO_INDEX: IndexRecord = IndexRecord { stamp: 0, place: 0 };
-
 fn terms_of(book: &ClosedBook) -> Terms
     ensures { λ r. ⌜ r ≡ termsOf (plain (now (book .entry))) ⌝ }
 {
@@ -57,9 +48,9 @@ pub fn check(bytes: &[u8]) -> Result<Summary, Refusal>
     ensures answer { λ r. ⌜ r ≡ summaryAnswer (now (bytes .entry)) ⌝ }
     ensures sums { λ r. ⌜ Sums (now (bytes .entry)) r ⌝ }
 {
-    let mut cards = [NO_CARD; 256];
+    let mut cards = [Card::NONE; 256];
     let mut marks = [0; 4080];
-    let mut index = [NO_INDEX; 256];
+    let mut index = [IndexRecord::NONE; 256];
     let book = read_closed(bytes, &mut cards, &mut marks, &mut index)?;
     Ok(summarize(&book))
 }

@@ -6,9 +6,9 @@ use mathlib.Core.Logic.{_⊎_, inl, inr}
 use Prim.Native.Nat.{ℕ, _<_, _≤_}
 use native.Mathlib.Omega.{arith}
 use lib.Dec.{T, eqb, ltb, eqb→eq, ltb→lt}
 use Rattle.cliques.specs.Graph.{Lawful}
-use Rattle.cliques.specs.Racks.{paired, graphOf, placed}
+use Rattle.worked.specs.Racks.{paired, graphOf, placed}
 use Rattle.cliques.proofs.Tests.{and-l, and-r, is-false}
 
 or-three : (a b c : Bool) → T (a || b || c) → T a ⊎ (T b ⊎ T c)
 or-three true b c t = inl tt

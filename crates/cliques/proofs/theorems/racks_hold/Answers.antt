@@ -1,4 +1,0 @@
-use Rattle.cliques.proofs.theorems.racks_hold.Needs as need
-
-pub returns : need.returns
-returns c = tt

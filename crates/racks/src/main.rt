@@ -2,6 +2,7 @@
 
 mod books;
 mod changes;
+mod orders;
 mod sets;
 mod tables;
 
@@ -19,7 +20,8 @@ fn run(rt: &LibcRuntime) -> Result<(), AnyError> {
     books::run(rt)?;
     changes::run(rt)?;
     tables::run(rt)?;
-    sets::run(rt)
+    sets::run(rt)?;
+    orders::run(rt)
 }
 
 fn main(rt: LibcRuntime) -> Result<(), AnyError> {

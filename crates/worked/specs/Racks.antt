@@ -8,6 +8,7 @@ use Rattle.cliques.specs.Sets.{same, isMaximalClique}
 use Rattle.cliques.specs.Completion.{completion, parentIndex}
 use Rattle.cliques.specs.Paths.{path}
 use Rattle.cliques.specs.Listing.{maximalCliques}
+use Rattle.order.specs.Orders.{degeneracyOrder, most}
 
 -- Where a maximal clique stands: its parent index and its path.
 pub record Position : Type 0 where
@@ -24,9 +25,17 @@ pub record Rack : Type 0 where
   pub completions : List (List ℕ × List ℕ)
   pub positions : List Position
 
+-- A rack, its degeneracy order, and the largest number of later partners in it.
+pub record Sequence : Type 0 where
+  pub size : ℕ
+  pub pairs : List (ℕ × ℕ)
+  pub order : List ℕ
+  pub largest : ℕ
+
 -- A case of any kind. A new kind is one more constructor here and one more clause of holds below.
 pub data Case : Type 0 where
   ofRack : Rack → Case
+  ofOrder : Sequence → Case
 
 -- u and v are one of the pairs.
 abbrev pub paired : List (ℕ × ℕ) → ℕ → ℕ → Bool
@@ -72,9 +81,17 @@ rackHolds r =
     leb (r .size) 256 && placed (r .size) (r .pairs) && alike (maximalCliques g) (r .cliques)
     && completionsHold g (r .completions) && positionsHold g (r .positions)
 
+-- The graph of the rack is lawful, and the definitions give the order and the number named.
+abbrev pub orderHolds : Sequence → Bool
+orderHolds s =
+    let g = graphOf (s .size) (s .pairs) in
+    leb (s .size) 256 && placed (s .size) (s .pairs) && same (degeneracyOrder g) (s .order)
+    && eqb (most (g .partners) (degeneracyOrder g)) (s .largest)
+
 -- The definitions give what the case says.
 abbrev pub holds : Case → Bool
 holds (ofRack r) = rackHolds r
+holds (ofOrder s) = orderHolds s
 
 -- The definitions give what every case of the list says.
 abbrev pub allHold : List Case → Bool
@@ -114,6 +131,20 @@ cases =
     })
     ∷ ofRack (record { size = 0; pairs = []; cliques = []; completions = []; positions = [] })
     ∷ ofRack (record { size = 1; pairs = []; cliques = (0 ∷ []) ∷ []; completions = []; positions = [] })
+    ∷ ofOrder (record {
+      size = 6;
+      pairs = (0, 1) ∷ (0, 2) ∷ (1, 2) ∷ (1, 3) ∷ (2, 3) ∷ (3, 4) ∷ [];
+      order = 5 ∷ 4 ∷ 0 ∷ 1 ∷ 2 ∷ 3 ∷ [];
+      largest = 2;
+    })
+    ∷ ofOrder (record {
+      size = 5;
+      pairs = (0, 1) ∷ (2, 3) ∷ (2, 4) ∷ (3, 4) ∷ [];
+      order = 0 ∷ 2 ∷ 1 ∷ 3 ∷ 4 ∷ [];
+      largest = 2;
+    })
+    ∷ ofOrder (record { size = 0; pairs = []; order = []; largest = 0 })
+    ∷ ofOrder (record { size = 1; pairs = []; order = 0 ∷ []; largest = 0 })
     ∷ []
 
 -- The definitions give what every case says.

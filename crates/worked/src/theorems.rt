@@ -7,7 +7,8 @@ pub fn racks_lawful()
     ensures { λ _. ⌜ RacksLawful ⌝ }
 {}
 
-/// The definitions give the maximal cliques, completions, parent indices and paths that the worked racks tell.
+/// The definitions give the maximal cliques, completions, parent indices, paths and degeneracy orders that the worked racks
+/// tell.
 pub fn racks_hold()
     ensures { λ _. ⌜ RacksHold ⌝ }
 {}

@@ -1,4 +1,5 @@
 //! Roll books in the caller's memory: reading one, and what it then holds.
+#![tactic(auto)]
 
 mod changes;
 mod index;

@@ -1,4 +1,5 @@
 //! `bookcheck` reads a roll book on standard input and tells what it holds, or the first thing that is wrong with it.
+#![tactic(auto)]
 
 use anyhow::anyhow;
 use std::io;

@@ -1,4 +1,5 @@
 //! Maximal cliques of a pair table, by path: definitions and theorems, with no program in sight.
+#![tactic(auto)]
 
 mod theorems;
 

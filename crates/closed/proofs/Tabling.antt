@@ -25,7 +25,7 @@ use Rattle.closed.proofs.Stamps.{fine, made, told}
 -- each card of a well-formed book is in range and has a stamp of its own
 good_at : (ds before : List Card) (k : ℕ) → EachAfter GoodCard before ds → k < length ds → (card_ok (get_or ds k no_card) ≡ true) × (on_card (before ++ take k ds) (stamp_at ds k) ≡ false)
 good_at [] before k h l = absurd (omega arith)
-good_at (c ∷ ds) before zero h l = (h.0.in-range, ap (λ v. on_card v c.stamp) (append-nil before) ∙ h.0.new)
+good_at (c ∷ ds) before zero h l = (h.0.in_range, ap (λ v. on_card v c.stamp) (append-nil before) ∙ h.0.new)
 good_at (c ∷ ds) before (suc k) h l =
     let r = good_at ds (before ++ c ∷ []) k h.1 (omega arith) in
     (r.0, ap (λ v. on_card v (stamp_at ds k)) (sym (append_assoc before (c ∷ []) (take k ds))) ∙ r.1)

@@ -1,4 +1,5 @@
 //! Closed books: the pair tables of a roll book, by its pair marks or under its rule.
+#![tactic(auto)]
 
 mod books;
 mod cards;

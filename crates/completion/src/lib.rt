@@ -1,4 +1,5 @@
 //! The completion of a clique, and the parent index and the parent of a maximal clique, over every pair table.
+#![tactic(auto)]
 
 mod barriers;
 mod calls;

@@ -37,7 +37,7 @@ card_good d c f e =
     (leb-false _ _ b.0, record { in_range = not-false _ a.0; family = f; new = g.0 })
 
 good_card : (d : Draft) (c : Card) → length d.cards < 256 → GoodCard d.cards c → first_broken (in_section d (CardRecord c)) ≡ None
-good_card d c l g = kept (not (card_ok c)) OutOfRange (not_from_true _ g.in-range) (kept (leb 256 (length d.cards)) TooMany (lt-leb _ _ l) (kept (on_card d.cards c.stamp) DuplicateStamp g.new refl))
+good_card d c l g = kept (not (card_ok c)) OutOfRange (not_from_true _ g.in_range) (kept (leb 256 (length d.cards)) TooMany (lt-leb _ _ l) (kept (on_card d.cards c.stamp) DuplicateStamp g.new refl))
 
 pair_good : (d : Draft) (a b : ℕ) → first_broken (in_section d (PairRecord a b)) ≡ None → GoodPair d.cards d.pairs (a, b)
 pair_good d a b e =
@@ -49,7 +49,7 @@ pair_good d a b e =
 
 good_pair : (d : Draft) (a b : ℕ) → GoodPair d.cards d.pairs (a, b) → first_broken (in_section d (PairRecord a b)) ≡ None
 good_pair d a b g =
-    kept (not (stamp_ok a && stamp_ok b)) OutOfRange (not_from_true _ (and_from _ _ g.in-range.0 g.in-range.1))
+    kept (not (stamp_ok a && stamp_ok b)) OutOfRange (not_from_true _ (and_from _ _ g.in_range.0 g.in_range.1))
     (kept (not (on_card d.cards a && on_card d.cards b)) UnknownStamp (not_from_true _ (and_from _ _ g.known.0 g.known.1))
     (kept (eqb a b) SelfPair g.apart (kept (said_pair d.pairs a b) Repeated g.new refl)))
 
@@ -61,7 +61,7 @@ withdrawn_good d s e =
     record { in_range = not-false _ r.0; known = not-false _ k.0; new = n.0 }
 
 good_withdrawn : (d : Draft) (s : ℕ) → GoodWithdrawn d.cards d.withdrawn s → first_broken (in_section d (WithdrawnRecord s)) ≡ None
-good_withdrawn d s g = kept (not (stamp_ok s)) OutOfRange (not_from_true _ g.in-range) (kept (not (on_card d.cards s)) UnknownStamp (not_from_true _ g.known) (kept (said d.withdrawn s) Repeated g.new refl))
+good_withdrawn d s g = kept (not (stamp_ok s)) OutOfRange (not_from_true _ g.in_range) (kept (not (on_card d.cards s)) UnknownStamp (not_from_true _ g.known) (kept (said d.withdrawn s) Repeated g.new refl))
 
 -- ---- the records of well-formed contents
 
@@ -139,7 +139,7 @@ stamp_fits s h = omega (arith, leb-true s 9999 (and_parts _ _ h).1)
 
 card_fits : (before : List Card) (c : Card) → GoodCard before c → Fit (CardRecord c)
 card_fits before c g =
-    let p1 = and_parts _ _ g.in-range in
+    let p1 = and_parts _ _ g.in_range in
     let p2 = and_parts _ _ p1.1 in
     let p3 = and_parts _ _ p2.1 in
     let p4 = and_parts _ _ p3.1 in
@@ -152,11 +152,11 @@ cards_fit (c ∷ cs) before tl h t = (card_fits before c h.0, cards_fit cs (befo
 
 pairs_fit : (cs : List Card) (ps before : List (ℕ × ℕ)) (tl : List Record) → EachAfter (GoodPair cs) before ps → All Fit tl → All Fit (map pair_record ps ++ tl)
 pairs_fit cs [] before tl h t = t
-pairs_fit cs (p ∷ ps) before tl h t = ((stamp_fits p.0 h.0.in-range.0, stamp_fits p.1 h.0.in-range.1), pairs_fit cs ps (before ++ p ∷ []) tl h.1 t)
+pairs_fit cs (p ∷ ps) before tl h t = ((stamp_fits p.0 h.0.in_range.0, stamp_fits p.1 h.0.in_range.1), pairs_fit cs ps (before ++ p ∷ []) tl h.1 t)
 
 last_fit : (cs : List Card) (xs before : List ℕ) → EachAfter (GoodWithdrawn cs) before xs → All Fit (last_records xs)
 last_fit cs [] before h = (tt, tt)
-last_fit cs (x ∷ xs) before h = (stamp_fits x h.0.in-range, last_fit cs xs (before ++ x ∷ []) h.1)
+last_fit cs (x ∷ xs) before h = (stamp_fits x h.0.in_range, last_fit cs xs (before ++ x ∷ []) h.1)
 
 terms_fit : (cs : List Card) (t : Terms) (tl : List Record) → GoodTerms cs t → All Fit tl → All Fit (term_records t ++ tl)
 terms_fit cs (by_rule r) tl g f = ((g.diameter, g.crown), f)
@@ -219,7 +219,7 @@ no_pairs : (cs : List Card) (ps : List (ℕ × ℕ)) (rs : List Record) → Last
 no_pairs cs ps rs l = record { more = []; withdrawn = l.more; is = l.is; good = tt; good_withdrawn = l.good }
 
 one_pair : (d : Draft) (a b : ℕ) (rs : List Record) → first_broken (in_section d (PairRecord a b)) ≡ None → Pairs d.cards (d.pairs ++ (a, b) ∷ []) rs → Pairs d.cards d.pairs (PairRecord a b ∷ rs)
-one_pair d a b rs e r = record { more = (a, b) ∷ r.more; withdrawn = r.withdrawn; is = ap (λ v. PairRecord a b ∷ v) r.is; good = (pair_good d a b e, r.good); good_withdrawn = r.good-withdrawn }
+one_pair d a b rs e r = record { more = (a, b) ∷ r.more; withdrawn = r.withdrawn; is = ap (λ v. PairRecord a b ∷ v) r.is; good = (pair_good d a b e, r.good); good_withdrawn = r.good_withdrawn }
 
 pairs_in_lem : (cs : List Card) (o : Option Rule) (rs : List Record) (ps : List (ℕ × ℕ)) → Ended (draft Paired cs o ps []) rs → Pairs cs ps rs
 pairs_in_lem cs o [] ps e = clash (sym e.1)
@@ -255,7 +255,7 @@ no_cards cs t ws rs l e g h =
     }
 
 of_pairs : (cs : List Card) (rs : List Record) → length cs ≤ 256 → Pairs cs [] rs → Rest cs rs
-of_pairs cs rs l p = no_cards cs (by_pairs p.more) p.withdrawn rs l p.is p.good p.good-withdrawn
+of_pairs cs rs l p = no_cards cs (by_pairs p.more) p.withdrawn rs l p.is p.good p.good_withdrawn
 
 cards_in_lem : (rs : List Record) (cs : List Card) → All Fit rs → length cs ≤ 256 → Ended (draft Cards cs None [] []) rs → Rest cs rs
 cards_in_lem [] cs f l e = clash (sym e.1)
@@ -271,8 +271,8 @@ cards_in_lem (CardRecord c ∷ rs) cs f l e =
       is = ap (λ v. CardRecord c ∷ v) r.is;
       few = subst (λ v. length v ≤ 256) a r.few;
       good = (g.1, r.good);
-      good_terms = subst (λ v. GoodTerms v r.terms) a r.good-terms;
-      good_withdrawn = subst (λ v. EachAfter (GoodWithdrawn v) [] r.withdrawn) a r.good-withdrawn;
+      good_terms = subst (λ v. GoodTerms v r.terms) a r.good_terms;
+      good_withdrawn = subst (λ v. EachAfter (GoodWithdrawn v) [] r.withdrawn) a r.good_withdrawn;
     }
 cards_in_lem (RuleRecord r ∷ rs) cs f l e =
     let w = last_ruled cs (Some r) [] rs (e.0.1, e.1) in
@@ -286,5 +286,5 @@ contents rs f k e =
     let r = cards_in_lem rs [] f (omega arith) (k, e) in (
       record { cards = r.more; terms = r.terms; withdrawn = r.withdrawn },
       r.is,
-      record { few = r.few; cards = r.good; terms = r.good-terms; withdrawn = r.good-withdrawn },
+      record { few = r.few; cards = r.good; terms = r.good_terms; withdrawn = r.good_withdrawn },
     )

@@ -1,4 +1,5 @@
 //! The roll book's format: records and their bytes, and which lists of records are a book.
+#![tactic(auto)]
 
 mod card;
 mod records;

@@ -1,6 +1,7 @@
 //! A book changes hands: it is read, changed while open, closed, asked, opened and changed again.
 //!
 //! `tools/misuse` shows that this order cannot be broken: with one line more, this program does not compile.
+#![tactic(auto)]
 
 use book::{IndexRecord, read};
 use closed::{ClosedBook, close};

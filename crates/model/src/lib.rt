@@ -1,5 +1,6 @@
 //! The reference model of a walk: the list of all maximal cliques by rising path, and a pin. What a walk answers to any
 //! list of calls is stated by it.
+#![tactic(auto)]
 
 mod answer;
 mod call;

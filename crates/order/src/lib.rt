@@ -1,4 +1,5 @@
 //! The degeneracy order: an order of a table's places in which no place has more later partners than it must.
+#![tactic(auto)]
 
 mod degeneracy;
 mod fronts;

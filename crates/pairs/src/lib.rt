@@ -1,4 +1,5 @@
 //! Pair tables: which places are partners, by lists of partners and by selections of a table below.
+#![tactic(auto)]
 
 mod checks;
 mod lists;

@@ -1,4 +1,5 @@
 //! Runs the library on books, lists and changes, and prints what came of each. The stored output was worked out by hand.
+#![tactic(auto)]
 
 mod books;
 mod changes;

@@ -1,4 +1,5 @@
 //! Why a call was refused: the reason, the layer that refused, the place, and the reason from the layer below.
+#![tactic(auto)]
 
 ghost use Rattle.refusal.specs.Refusals.{below_number, fixed, layer_name, line, number_of, refused, refused_over};
 ghost use Rattle.std.specs.Prelude.{◌≡◌, Some};

@@ -1,4 +1,5 @@
 //! Records in rising order of a key, at the front of a slice that the caller lends.
+#![tactic(auto)]
 
 mod keys;
 mod lists;

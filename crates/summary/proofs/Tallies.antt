@@ -49,7 +49,7 @@ module _ (cs : List Card) (n : Named cs) where
       let p = place_found cs s u f.1 in
       count_one (λ k. said ws (stamp_at cs k)) (λ k. said (ws ++ s ∷ []) (stamp_at cs k)) (length cs) u p.0 (ap (said ws) p.1 ∙ g.new)
       (push_true (λ x. eqb x (stamp_at cs u)) ws s (eq-eqb _ _ (sym p.1)))
-      (λ k l ne. push_false (λ x. eqb x (stamp_at cs k)) ws s (ne_eqb _ _ (λ e. ne (only cs s u k n f.1 (stamp_pos s g.in-range) (sym e)))))
+      (λ k l ne. push_false (λ x. eqb x (stamp_at cs k)) ws s (ne_eqb _ _ (λ e. ne (only cs s u k n f.1 (stamp_pos s g.in_range) (sym e)))))
 
   all_gone : (xs ws : List ℕ) → EachAfter (GoodWithdrawn cs) ws xs → count_to (λ u. said ws (stamp_at cs u)) (length cs) ≡ length ws → count_to (λ u. said (ws ++ xs) (stamp_at cs u)) (length cs) ≡ length (ws ++ xs)
   all_gone [] ws h e = subst (λ v. count_to (λ u. said v (stamp_at cs u)) (length cs) ≡ length v) (sym (append-nil ws)) e
@@ -86,13 +86,13 @@ module _ (cs : List Card) (n : Named cs) where
       ne e = eqb-false a b g.apart (sym p.1 ∙ ap (stamp_at cs) e ∙ q.1)
 
       other : (x y : ℕ) → (SamePlaces u v x y → ⊥) → said_pair (ps ++ (a, b) ∷ []) (stamp_at cs x) (stamp_at cs y) ≡ said_pair ps (stamp_at cs x) (stamp_at cs y)
-      other x y d = push_false (same_pair (stamp_at cs x) (stamp_at cs y)) ps (a, b) (places_apart cs n a b u v (stamp_pos a g.in-range.0) (stamp_pos b g.in-range.1) f.1 h.1 x y d)
+      other x y d = push_false (same_pair (stamp_at cs x) (stamp_at cs y)) ps (a, b) (places_apart cs n a b u v (stamp_pos a g.in_range.0) (stamp_pos b g.in_range.1) f.1 h.1 x y d)
 
       at : (x y : ℕ) → x < y → y < length cs → SamePlaces u v x y → said_pair ps (stamp_at cs x) (stamp_at cs y) ≡ false
           → sum_to (λ w. count_to (λ k. said_pair (ps ++ (a, b) ∷ []) (stamp_at cs k) (stamp_at cs w)) w) (length cs) ≡ sum_to (λ w. count_to (λ k. said_pair ps (stamp_at cs k) (stamp_at cs w)) w) (length cs) + 1
       at x y l m s z = sum_one (λ w. count_to (λ k. said_pair ps (stamp_at cs k) (stamp_at cs w)) w) (λ w. count_to (λ k. said_pair (ps ++ (a, b) ∷ []) (stamp_at cs k) (stamp_at cs w)) w) (length cs) y m
           (count_one (λ k. said_pair ps (stamp_at cs k) (stamp_at cs y)) (λ k. said_pair (ps ++ (a, b) ∷ []) (stamp_at cs k) (stamp_at cs y)) y x l z
-          (push_true (same_pair (stamp_at cs x) (stamp_at cs y)) ps (a, b) (places_pair cs n a b u v (stamp_pos a g.in-range.0) (stamp_pos b g.in-range.1) f.1 h.1 x y s))
+          (push_true (same_pair (stamp_at cs x) (stamp_at cs y)) ps (a, b) (places_pair cs n a b u v (stamp_pos a g.in_range.0) (stamp_pos b g.in_range.1) f.1 h.1 x y s))
           (λ k i d. other k y (λ t. d (same_first s t))))
           (λ w i d. count_same (λ k. said_pair (ps ++ (a, b) ∷ []) (stamp_at cs k) (stamp_at cs w)) (λ k. said_pair ps (stamp_at cs k) (stamp_at cs w)) w (λ k j. other k w (λ t. d (same_second s t l j))))
         where

@@ -1,4 +1,5 @@
 //! What a book holds, in numbers.
+#![tactic(auto)]
 
 mod counting;
 mod facts;

@@ -68,7 +68,7 @@ completions_hold g (c ∷ cs) = same (completion g c.0) c.1 && completions_hold 
 abbrev pub positions_hold : Graph → List Position → Bool
 positions_hold g [] = true
 positions_hold g (t ∷ ts) =
-    is_maximal_clique g t.clique && eqb (parent_index g t.clique) t.index && same (path g t.clique) t.path-down
+    is_maximal_clique g t.clique && eqb (parent_index g t.clique) t.index && same (path g t.clique) t.path_down
     && positions_hold g ts
 
 -- The graph of the rack is lawful, and the definitions give what the rack says.

@@ -8,7 +8,7 @@ returns-then-at-records g c =
     let p : g.row.T.Denot → Bool = of_key g.T.Key.Order.upto g.T.Keyed.keyed c.args.key in
     let xs = c.args.records.now in
     let x = c.index-records-at.result in
-    let f : Some x ≡ first_of p xs = leading_at xs c.place-of-at.result x (omega arith) (search rules) ∙ c.place-of-at.ensures.found in
+    let f : Some x ≡ first_of p xs = leading_at xs c.place_of-at.result x (omega arith) (search rules) ∙ c.place_of-at.ensures.found in
     let b : p x ≡ true = first_passes p xs x f in
     record {
       answer = f;
@@ -16,4 +16,4 @@ returns-then-at-records g c =
     }
 
 pub returns-else-at-records : goal.returns-else-at-records
-returns-else-at-records g c = record { answer = leading_past c.args.records.now c.place-of-at.result (omega arith) ∙ c.place-of-at.ensures.found; key = tt }
+returns-else-at-records g c = record { answer = leading_past c.args.records.now c.place_of-at.result (omega arith) ∙ c.place_of-at.ensures.found; key = tt }

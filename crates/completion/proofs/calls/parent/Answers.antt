@@ -7,6 +7,6 @@ pub returns-in-None : goal.returns-in-None
 returns-in-None g c =
     let q = parent_gives _ (g.T.PairTable.lawful c.args.table.now) c.args.set.now c.in-None.ensures c.args.out.now in
     record {
-      answer = c.parent-of.ensures.answer ∙ ap (λ (o : Outcome (Option ℕ)). o.answer) q;
-      space = c.parent-of.ensures.space ∙ ap (λ (o : Outcome (Option ℕ)). o.space) q;
+      answer = c.parent_of.ensures.answer ∙ ap (λ (o : Outcome (Option ℕ)). o.answer) q;
+      space = c.parent_of.ensures.space ∙ ap (λ (o : Outcome (Option ℕ)). o.space) q;
     }

@@ -3,4 +3,4 @@ use Rattle.completion.proofs.calls.parent_index.Goals as goal
 
 pub returns-in-None : goal.returns-in-None
 returns-in-None g c =
-    index_gives _ (g.T.PairTable.lawful c.args.table.now) c.args.set.now c.in-None.ensures c.largest-barrier.result c.largest-barrier.ensures
+    index_gives _ (g.T.PairTable.lawful c.args.table.now) c.args.set.now c.in-None.ensures c.largest_barrier.result c.largest_barrier.ensures

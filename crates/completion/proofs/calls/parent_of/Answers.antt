@@ -9,25 +9,25 @@ use Rattle.completion.proofs.calls.parent_of.Goals as goal
 pub below-requires : goal.below-requires
 below-requires g c = few _ (g.T.PairTable.lawful c.args.table.now) c.args.set.now (sym c.requires)
 
-pub members-of-requires : goal.members-of-requires
-members-of-requires g c =
-    let a = counts c.below.result (below c.largest-barrier-index.result c.args.set.now) c.below.ensures in
-    let b = filter_long (λ x. ltb x c.largest-barrier-index.result) c.args.set.now in
+pub members_of-requires : goal.members_of-requires
+members_of-requires g c =
+    let a = counts c.below.result (below c.largest_barrier-index.result c.args.set.now) c.below.ensures in
+    let b = filter_long (λ x. ltb x c.largest_barrier-index.result) c.args.set.now in
     let f = few _ (g.T.PairTable.lawful c.args.table.now) c.args.set.now (sym c.requires) in
     omega arith
 
-pub copy-out-requires : goal.copy-out-requires
-copy-out-requires g c = pass_few _ (g.T.PairTable.lawful c.args.table.now) _ c.completed.result c.completed.ensures
+pub copy_out-requires : goal.copy_out-requires
+copy_out-requires g c = pass_few _ (g.T.PairTable.lawful c.args.table.now) _ c.completed.result c.completed.ensures
 
 pub returns-then-index-smallest : goal.returns-then-index-smallest
 returns-then-index-smallest g c =
-    let q = ap (λ (o : Option (List ℕ)). copied_if_any o c.args.out.now) (parent_none _ (g.T.PairTable.lawful c.args.table.now) c.args.set.now c.requires c.largest-barrier-index.result c.smallest.result c.largest-barrier-index.ensures c.smallest.ensures c.if-index-smallest.true) in
+    let q = ap (λ (o : Option (List ℕ)). copied_if_any o c.args.out.now) (parent_none _ (g.T.PairTable.lawful c.args.table.now) c.args.set.now c.requires c.largest_barrier-index.result c.smallest.result c.largest_barrier-index.ensures c.smallest.ensures c.if-index-smallest.true) in
     record { answer = ap (λ (o : Outcome (Option ℕ)). o.answer) q; space = ap (λ (o : Outcome (Option ℕ)). o.space) q }
 
 pub returns-in-Ok : goal.returns-in-Ok
 returns-in-Ok g c =
-    let q = parent_copied _ (g.T.PairTable.lawful c.args.table.now) c.args.set.now c.requires c.largest-barrier-index.result c.smallest.result c.largest-barrier-index.ensures c.smallest.ensures
-    c.args.out.now _ c.below.result c.completed.result c.if-index-smallest.false c.below.ensures c.members-of.ensures c.completed.ensures in
+    let q = parent_copied _ (g.T.PairTable.lawful c.args.table.now) c.args.set.now c.requires c.largest_barrier-index.result c.smallest.result c.largest_barrier-index.ensures c.smallest.ensures
+    c.args.out.now _ c.below.result c.completed.result c.if-index-smallest.false c.below.ensures c.members_of.ensures c.completed.ensures in
     record {
       answer = ap counted c.in-Ok.ensures.answer ∙ ap (λ (o : Outcome (Option ℕ)). o.answer) q;
       space = c.in-Ok.ensures.space ∙ ap (λ (o : Outcome (Option ℕ)). o.space) q;
@@ -35,8 +35,8 @@ returns-in-Ok g c =
 
 pub returns-in-Err : goal.returns-in-Err
 returns-in-Err g c =
-    let q = parent_copied _ (g.T.PairTable.lawful c.args.table.now) c.args.set.now c.requires c.largest-barrier-index.result c.smallest.result c.largest-barrier-index.ensures c.smallest.ensures
-    c.args.out.now _ c.below.result c.completed.result c.if-index-smallest.false c.below.ensures c.members-of.ensures c.completed.ensures in
+    let q = parent_copied _ (g.T.PairTable.lawful c.args.table.now) c.args.set.now c.requires c.largest_barrier-index.result c.smallest.result c.largest_barrier-index.ensures c.smallest.ensures
+    c.args.out.now _ c.below.result c.completed.result c.if-index-smallest.false c.below.ensures c.members_of.ensures c.completed.ensures in
     record {
       answer = ap counted c.in-Err.ensures.answer ∙ ap (λ (o : Outcome (Option ℕ)). o.answer) q;
       space = c.in-Err.ensures.space ∙ ap (λ (o : Outcome (Option ℕ)). o.space) q;

@@ -6,8 +6,8 @@ use Rattle.completion.proofs.Passing.{pass_count, pass_yes, pass_no}
 use Rattle.completion.proofs.gather.completed.Goals as goal
 use Rattle.completion.proofs.gather.completed.Goals.{then-joins, else-joins}
 
-pub members-of-requires : goal.members-of-requires
-members-of-requires g c =
+pub members_of-requires : goal.members_of-requires
+members_of-requires g c =
     let m = g.T.PairTable.meaning c.args.table.now in
     let b = (g.T.PairTable.lawful c.args.table.now).few in
     let h = pass_count m c.args.set.now c.loop-k.k c.loop-k.got c.loop-k.invariant in
@@ -24,8 +24,8 @@ pub loop-k-preserved : goal.loop-k-preserved
 loop-k-preserved g c =
     let m = g.T.PairTable.meaning c.args.table.now in
     elim c.if-joins.branch [
-      | then-joins w ↦ pass_yes m c.args.set.now c.loop-k.k c.loop-k.got c.loop-k.invariant _ c.if-joins.got c.members-of.ensures w.if-joins.ensures (w.got-is ∙ w.push.ensures)
-      | else-joins w ↦ pass_no m c.args.set.now c.loop-k.k c.loop-k.got c.loop-k.invariant _ c.if-joins.got c.members-of.ensures w.if-joins.ensures w.got-is
+      | then-joins w ↦ pass_yes m c.args.set.now c.loop-k.k c.loop-k.got c.loop-k.invariant _ c.if-joins.got c.members_of.ensures w.if-joins.ensures (w.got-is ∙ w.push.ensures)
+      | else-joins w ↦ pass_no m c.args.set.now c.loop-k.k c.loop-k.got c.loop-k.invariant _ c.if-joins.got c.members_of.ensures w.if-joins.ensures w.got-is
     ]
 
 pub returns : goal.returns
@@ -34,7 +34,7 @@ returns g c =
     let q : c.loop-k.k ≡ m.size = omega (arith, c.size-n.ensures) in
     c.loop-k.invariant ∙ ap (λ (k : ℕ). standing_of (append_pass m k c.args.set.now)) q
 
-pub overflow-cast-k : goal.overflow-cast-k
-overflow-cast-k g c =
+pub overflow_cast-k : goal.overflow_cast-k
+overflow_cast-k g c =
     let b = (g.T.PairTable.lawful c.args.table.now).few in
     omega (arith, c.size-n.ensures)

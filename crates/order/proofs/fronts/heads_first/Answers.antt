@@ -2,7 +2,7 @@ use Rattle.std.proofs.Common.{◌≡◌, ℕ, ◌+◌, ◌-◌, ◌<◌, List, l
 use Rattle.order.specs.Orders.{head}
 use Rattle.order.proofs.Moves.{Moved, moved_none, moved_head, moved_other}
 use Rattle.order.proofs.fronts.heads_first.Goals as goal
-use Rattle.order.proofs.fronts.heads_first.Goals.{then-is-head, else-is-head}
+use Rattle.order.proofs.fronts.heads_first.Goals.{then-is_head, else-is_head}
 
 pub loop-i-init : goal.loop-i-init
 loop-i-init g c = (refl, omega arith, moved_none _ _)
@@ -16,23 +16,23 @@ loop-i-preserved g c =
     let xs = c.loop-i.order in
     let inv = c.loop-i.invariant in
     let z : i - 0 ≡ i = omega arith in
-    let t : c.is-head.result ≡ head e (take i xs) (get_or xs i 0) = c.is-head.ensures ∙ ap (λ k. head e (take k xs) (get_or xs i 0)) z in
+    let t : c.is_head.result ≡ head e (take i xs) (get_or xs i 0) = c.is_head.ensures ∙ ap (λ k. head e (take k xs) (get_or xs i 0)) z in
     let ly : i < length ys = omega (arith, c.requires) in
     let lx : i < length xs = omega (arith, inv.0) in
-    elim c.if-is-head.branch [
-      | then-is-head w ↦ (
-        c.if-is-head.auto.order ∙ inv.0,
+    elim c.if-is_head.branch [
+      | then-is_head w ↦ (
+        c.if-is_head.auto.order ∙ inv.0,
         omega (arith, w.count-is),
-        subst (λ k. Moved e (i + 1) k ys c.if-is-head.order) (sym w.count-is)
+        subst (λ k. Moved e (i + 1) k ys c.if-is_head.order) (sym w.count-is)
             (subst (λ (l : List ℕ). Moved e (i + 1) (h + 1) ys l) (sym w.order-is)
-            (moved_head e i h ys xs inv.2 ly lx (sym t ∙ w.if-is-head.true) w.move-up.new.order w.move-up.ensures.front w.move-up.ensures.rest)),
+            (moved_head e i h ys xs inv.2 ly lx (sym t ∙ w.if-is_head.true) w.move_up.new.order w.move_up.ensures.front w.move_up.ensures.rest)),
       )
-      | else-is-head w ↦ (
-        c.if-is-head.auto.order ∙ inv.0,
+      | else-is_head w ↦ (
+        c.if-is_head.auto.order ∙ inv.0,
         omega (arith, w.count-is),
-        subst (λ k. Moved e (i + 1) k ys c.if-is-head.order) (sym w.count-is)
+        subst (λ k. Moved e (i + 1) k ys c.if-is_head.order) (sym w.count-is)
             (subst (λ (l : List ℕ). Moved e (i + 1) h ys l) (sym w.order-is)
-            (moved_other e i h ys xs inv.2 ly lx (sym t ∙ w.if-is-head.false))),
+            (moved_other e i h ys xs inv.2 ly lx (sym t ∙ w.if-is_head.false))),
       )
     ]
 

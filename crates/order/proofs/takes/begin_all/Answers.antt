@@ -24,7 +24,7 @@ loop-u-preserved g c =
     let u = c.loop-u.u in
     let R = c.loop-u.tallies.records in
     let R' = c.begin.new.tallies.records in
-    let t : Tally = record { partners = c.count-partners-partners.result; waits = true } in
+    let t : Tally = record { partners = c.count_partners-partners.result; waits = true } in
     let q : R' ≡ set R u t = c.begin.ensures.after in
     let wide = i.0.wide in
     let here : tally_at R' u ≡ t = ap (λ (z : List Tally). tally_at z u) q ∙ tally_same R u t (omega arith) in
@@ -32,7 +32,7 @@ loop-u-preserved g c =
     let e = (g.T.PairTable.meaning c.args.table.now).partners in (
       c.begin.ensures.lined,
       (λ v l. elim (cases_eq v u) [
-        | inl r ↦ subst (λ z. (waits_at R' z ≡ true) × (count_at R' z ≡ how_many (e z) (places c.args.n))) (sym r) (ap (λ z. z.waits) here, ap (λ z. z.partners) here ∙ c.count-partners-partners.ensures)
+        | inl r ↦ subst (λ z. (waits_at R' z ≡ true) × (count_at R' z ≡ how_many (e z) (places c.args.n))) (sym r) (ap (λ z. z.waits) here, ap (λ z. z.partners) here ∙ c.count_partners-partners.ensures)
         | inr r ↦ (let o = i.1 v (omega arith) in (ap (λ z. z.waits) (there v r) ∙ o.0, ap (λ z. z.partners) (there v r) ∙ o.1))
       ]),
       (λ v l. ap (λ z. z.waits) (there v (λ r. omega arith)) ∙ i.2 v (omega arith)),

@@ -9,8 +9,8 @@ use Rattle.order.proofs.Counts.{length_places}
 use Rattle.order.proofs.Steps.{idle, none_next, step, order_more, most_more, none_lined}
 use Rattle.order.proofs.takes.take_all.Goals as goal
 
-pub begin-all-requires : goal.begin-all-requires
-begin-all-requires g c =
+pub begin_all-requires : goal.begin_all-requires
+begin_all-requires g c =
     let q = c.new-tallies.ensures in
     record {
       lined = none_lined _ _ q c.new-line.ensures.held;
@@ -23,14 +23,14 @@ pub loop-next-init : goal.loop-next-init
 loop-next-init g c =
     let e = (g.T.PairTable.meaning c.args.table.now).partners in
     let n = c.args.n in
-    let S = left n c.begin-all.new.tallies.records in
-    let q : S ≡ places n = c.begin-all.ensures.left in
+    let S = left n c.begin_all.new.tallies.records in
+    let q : S ≡ places n = c.begin_all.ensures.left in
     let l : length S ≡ n = ap length q ∙ length_places n in
     let t : taken e n (places n) ≡ taken e (length S) S = ap (λ k. taken e k (places n)) (sym l) ∙ ap (taken e (length S)) (sym q) in
-    (c.begin-all.ensures.tallied, t, omega arith, refl, (let m = ap (most e) t in omega arith))
+    (c.begin_all.ensures.tallied, t, omega arith, refl, (let m = ap (most e) t in omega arith))
 
-pub take-next-requires : goal.take-next-requires
-take-next-requires g c = record {
+pub take_next-requires : goal.take_next-requires
+take_next-requires g c = record {
   tallied = c.loop-next.invariant.0;
   within = omega (arith, c.requires.size, (g.T.PairTable.lawful c.args.table.now).few);
 }
@@ -41,9 +41,9 @@ loop-next-smaller g c =
     let n = c.args.n in
     let S = left n c.loop-next.tallies.records in
     let s = step e (g.T.PairTable.lawful c.args.table.now).apart S c.in-Some.next c.in-Some.ensures.answer in
-    let q : left n c.take-next.new.tallies.records ≡ after_next e S = c.in-Some.ensures.left in
+    let q : left n c.take_next.new.tallies.records ≡ after_next e S = c.in-Some.ensures.left in
     let l = ap length q in
-    let less : length (left n c.take-next.new.tallies.records) < length S = omega (arith, s.shorter) in
+    let less : length (left n c.take_next.new.tallies.records) < length S = omega (arith, s.shorter) in
     less
 
 pub loop-next-preserved : goal.loop-next-preserved
@@ -56,7 +56,7 @@ loop-next-preserved g c =
     let inv = c.loop-next.invariant in
     let S = left n c.loop-next.tallies.records in
     let s = step e (g.T.PairTable.lawful c.args.table.now).apart S w c.in-Some.ensures.answer in
-    let q : left n c.take-next.new.tallies.records ≡ after_next e S = c.in-Some.ensures.left in
+    let q : left n c.take_next.new.tallies.records ≡ after_next e S = c.in-Some.ensures.left in
     let sh = s.shorter in
     let l = ap length q in
     let lt : i < n = omega (arith, inv.2) in
@@ -77,7 +77,7 @@ returns g c =
     let n = c.args.n in
     let inv = c.loop-next.invariant in
     let S = left n c.loop-next.tallies.records in
-    let no : S ≡ [] = none_next e S c.in-default.ensures.answer in
+    let no : S ≡ [] = none_next e S c.in_default.ensures.answer in
     let t : taken e (length S) S ≡ [] = ap (λ (z : List ℕ). taken e (length z) z) no in
     let l = ap length no in
     let full : c.loop-next.placed ≡ n = omega (arith, inv.2) in

@@ -8,14 +8,14 @@ use Rattle.order.proofs.Lining.{waits_wide}
 use Rattle.order.proofs.Nexts.{lead_waits, popped, no_left, lead_none, ok_lead, err_lead, took, left_then, tallied_then}
 use Rattle.order.proofs.takes.take_next.Goals as goal
 
-pub returns-in-default : goal.returns-in-default
-returns-in-default g c =
+pub returns-in_default : goal.returns-in_default
+returns-in_default g c =
     let e = (g.T.PairTable.meaning c.args.table.now).partners in
     let R = c.args.tallies.now.records in
     let W = held c.args.line.now in
-    let ld : leading W ≡ None = err_lead (leading W) c.in-default.field-0 _ (sym c.in-default.is ∙ c.pop-first.ensures.answer) in
+    let ld : leading W ≡ None = err_lead (leading W) c.in_default.field-0 _ (sym c.in_default.is ∙ c.pop_first.ensures.answer) in
     let w : W ≡ [] = lead_none W ld in
-    let same : held c.pop-first.new.self ≡ W = c.pop-first.ensures.held ∙ ap (λ (l : List Waiting). drop 1 l) w ∙ sym w in
+    let same : held c.pop_first.new.self ≡ W = c.pop_first.ensures.held ∙ ap (λ (l : List Waiting). drop 1 l) w ∙ sym w in
     let no : left c.args.n R ≡ [] = no_left c.args.n R W c.requires.tallied.lined ld in
     record {
       tallied = subst (λ (l : List Waiting). Tallied c.args.n e R l) (sym same) c.requires.tallied;
@@ -27,19 +27,19 @@ pub stop-requires : goal.stop-requires
 stop-requires g c =
     let R = c.args.tallies.now.records in
     let W = held c.args.line.now in
-    let ld : leading W ≡ Some c.in-Ok.first = ok_lead (leading W) c.in-Ok.first _ (sym c.in-Ok.is ∙ c.pop-first.ensures.answer) in
+    let ld : leading W ≡ Some c.in-Ok.first = ok_lead (leading W) c.in-Ok.first _ (sym c.in-Ok.is ∙ c.pop_first.ensures.answer) in
     let h = waits_wide R c.in-Ok.first.place (lead_waits R W c.requires.tallied.lined c.in-Ok.first ld) in
     omega (arith, c.requires.tallied.lined.wide)
 
-pub lower-partners-requires : goal.lower-partners-requires
-lower-partners-requires g c =
+pub lower_partners-requires : goal.lower_partners-requires
+lower_partners-requires g c =
     let R = c.args.tallies.now.records in
     let W = held c.args.line.now in
-    let ld : leading W ≡ Some c.in-Ok.first = ok_lead (leading W) c.in-Ok.first _ (sym c.in-Ok.is ∙ c.pop-first.ensures.answer) in
+    let ld : leading W ≡ Some c.in-Ok.first = ok_lead (leading W) c.in-Ok.first _ (sym c.in-Ok.is ∙ c.pop_first.ensures.answer) in
     let p = popped R W c.requires.tallied.lined c.in-Ok.first ld in
     record {
-      lined = subst (λ (z : List Tally). Lined z (held c.pop-first.new.self)) (sym c.stop.ensures)
-          (subst (λ (l : List Waiting). Lined (set R c.in-Ok.first.place (record { partners = count_at R c.in-Ok.first.place; waits = false })) l) (sym c.pop-first.ensures.held) p);
+      lined = subst (λ (z : List Tally). Lined z (held c.pop_first.new.self)) (sym c.stop.ensures)
+          (subst (λ (l : List Waiting). Lined (set R c.in-Ok.first.place (record { partners = count_at R c.in-Ok.first.place; waits = false })) l) (sym c.pop_first.ensures.held) p);
       within = c.requires.within;
     }
 
@@ -52,12 +52,12 @@ returns g c =
     let R = c.args.tallies.now.records in
     let W = held c.args.line.now in
     let s = c.requires.tallied in
-    let ld : leading W ≡ Some x = ok_lead (leading W) x _ (sym c.in-Ok.is ∙ c.pop-first.ensures.answer) in
+    let ld : leading W ≡ Some x = ok_lead (leading W) x _ (sym c.in-Ok.is ∙ c.pop_first.ensures.answer) in
     let t = took n e both R W s x ld in
     let R1 = c.stop.new.self.records in
-    let R2 = c.lower-partners.new.tallies.records in
+    let R2 = c.lower_partners.new.tallies.records in
     record {
-      tallied = tallied_then n e both R W s x ld R1 c.stop.ensures R2 c.lower-partners.ensures.lowered (held c.lower-partners.new.line) c.lower-partners.ensures.lined;
+      tallied = tallied_then n e both R W s x ld R1 c.stop.ensures R2 c.lower_partners.ensures.lowered (held c.lower_partners.new.line) c.lower_partners.ensures.lined;
       answer = t.0;
-      left = left_then n e both R W s x ld R1 c.stop.ensures R2 c.lower-partners.ensures.lowered ∙ sym t.1;
+      left = left_then n e both R W s x ld R1 c.stop.ensures R2 c.lower_partners.ensures.lowered ∙ sym t.1;
     }

@@ -17,7 +17,7 @@ returns c =
     let bv : beyond o c.args.v ≡ false = search rules in
     let lu : c.args.u < 256 = search rules in
     let lv : c.args.v < 256 = search rules in
-    let t : tells ms c.args.u c.args.v ≡ not c.args.add = sym c.is-marked.ensures ∙ other c.is-marked.result c.args.add c.if-is-marked-add.false in
+    let t : tells ms c.args.u c.args.v ≡ not c.args.add = sym c.is_marked.ensures ∙ other c.is_marked.result c.args.add c.if-is_marked-add.false in
     let m : marked ms c.args.u c.args.v ≡ not c.args.add = sym (tells_marked ms _ _ lu lv c.if-u-v.false) ∙ t in
     record {
       answer = ap answering (sym (no_fault o _ ms _ _ c.args.add s r (or_from _ _ bu bv) (ne_eqb _ _ c.if-u-v.false) t));

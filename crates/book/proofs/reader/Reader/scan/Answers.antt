@@ -13,19 +13,19 @@ use Rattle.book.proofs.reader.Reader.scan.Goals as goal
 pub loop-at-init : goal.loop-at-init
 unfolding read_book
 loop-at-init c =
-    let e = c.requires.0 in
+    let e = c.requires.self_value in
     let z : c.args.self.now.count ≡ 0 = ap (λ r. r.count) e in
     let es = held c.new-stamps.result in (
       omega arith,
       omega arith,
       ap (λ r. length r.notes.withdrawn) e,
       c.new-stamps.ensures.count ∙ sym z,
-      c.new-stamps.ensures.room ∙ c.requires.3,
+      c.new-stamps.ensures.room ∙ c.requires.index_len,
       refl,
       (
         blank,
         subst (λ r. Represents blank (stand_of r c.args.cards.now es c.args.marks.now)) (sym e)
-            (subst (λ ms. Represents blank (stand_of fresh c.args.cards.now es ms)) (sym c.requires.2) (starts es c.new-stamps.ensures.held)),
+            (subst (λ ms. Represents blank (stand_of fresh c.args.cards.now es ms)) (sym c.requires.marks_value) (starts es c.new-stamps.ensures.held)),
         refl,
       ),
     )
@@ -37,8 +37,8 @@ turned : (c : goal.In-Ok) → (c.in-Ok.left ≤ length c.args.bytes.now) × (c.l
 turned c = turn c.args.bytes.now _ c.loop-at.at c.loop-at.invariant.6.0 _ _ c.loop-at-test.true (take_rest c.args.bytes.now c.loop-at.at) c.loop-at.invariant.6.1 c.loop-at.invariant.6.2
     _ c.in-Ok.left c.in-Ok.ensures.answer
 
-pub overflow-sub-at : goal.overflow-sub-at
-overflow-sub-at c = (turned c).0
+pub overflow_sub-at : goal.overflow_sub-at
+overflow_sub-at c = (turned c).0
 
 pub loop-at-smaller : goal.loop-at-smaller
 loop-at-smaller c = let a = (turned c).0 in let b = (turned c).1 in omega arith
@@ -63,10 +63,10 @@ returns-in-Done c =
     let e : read_book c.args.bytes.now ≡ Ok d = ended c.args.bytes.now c.loop-at.at d _ n c.loop-at.invariant.6.2 ∙ ap (λ b. cond b (Ok d) (Err (refused_at Truncated c.loop-at.at))) s in
     let l : length c.loop-at.cards ≡ 256 = search rules in
     subst (λ q. Finds q (Ok tt) c.loop-at.self c.loop-at.cards c.loop-at.marks) (sym e)
-    (finds d c.loop-at.self c.loop-at.cards _ c.loop-at.marks v l c.loop-at.invariant.1 (c.loop-at.invariant.5 ∙ ap (drop c.loop-at.self.count) c.requires.1))
+    (finds d c.loop-at.self c.loop-at.cards _ c.loop-at.marks v l c.loop-at.invariant.1 (c.loop-at.invariant.5 ∙ ap (drop c.loop-at.self.count) c.requires.cards_value))
 
-pub returns-in-default : goal.returns-in-default
-returns-in-default c =
+pub returns-in_default : goal.returns-in_default
+returns-in_default c =
     let d = c.loop-at.invariant.6.0 in
     let n : length c.args.bytes.now ≤ c.loop-at.at = omega arith in
     let f : is_done c.loop-at.self.section ≡ false = search rules in

@@ -12,21 +12,21 @@ pub loop-place-preserved : goal.loop-place-preserved
 loop-place-preserved c =
     let p = c.loop-place.place in
     let z : p ≡ p - 0 = omega arith in
-    let o : on_card (take p c.args.cards.now) (stamp_at c.args.cards.now p) ≡ false = ap (λ k. on_card (take k c.args.cards.now) (stamp_at c.args.cards.now p)) z ∙ sym c.if-has-stamp.ensures in
-    none_more (card_fault c.args.cards.now) p c.loop-place.invariant (fine c.args.cards.now p (sym c.if-not-in-range.ensures) o)
+    let o : on_card (take p c.args.cards.now) (stamp_at c.args.cards.now p) ≡ false = ap (λ k. on_card (take k c.args.cards.now) (stamp_at c.args.cards.now p)) z ∙ sym c.if-has_stamp.ensures in
+    none_more (card_fault c.args.cards.now) p c.loop-place.invariant (fine c.args.cards.now p (sym c.if-not-in_range.ensures) o)
 
-pub returns-then-not-in-range : goal.returns-then-not-in-range
-returns-then-not-in-range c =
+pub returns-then-not-in_range : goal.returns-then-not-in_range
+returns-then-not-in_range c =
     ap (λ e. Some e) c.new.ensures ∙ sym (first_here (card_fault c.args.cards.now) c.loop-place.place (length c.args.cards.now) _ c.loop-place.invariant
-    (ill c.args.cards.now c.loop-place.place (sym c.if-not-in-range.ensures)) c.loop-place-test.true)
+    (ill c.args.cards.now c.loop-place.place (sym c.if-not-in_range.ensures)) c.loop-place-test.true)
 
-pub returns-then-has-stamp : goal.returns-then-has-stamp
-returns-then-has-stamp c =
+pub returns-then-has_stamp : goal.returns-then-has_stamp
+returns-then-has_stamp c =
     let p = c.loop-place.place in
     let z : p ≡ p - 0 = omega arith in
-    let o : on_card (take p c.args.cards.now) (stamp_at c.args.cards.now p) ≡ true = ap (λ k. on_card (take k c.args.cards.now) (stamp_at c.args.cards.now p)) z ∙ sym c.if-has-stamp.ensures in
-    ap (λ e. Some e) c.new-then-has-stamp.ensures ∙ sym (first_here (card_fault c.args.cards.now) p (length c.args.cards.now) _ c.loop-place.invariant
-    (twice c.args.cards.now p (sym c.if-not-in-range.ensures) o) c.loop-place-test.true)
+    let o : on_card (take p c.args.cards.now) (stamp_at c.args.cards.now p) ≡ true = ap (λ k. on_card (take k c.args.cards.now) (stamp_at c.args.cards.now p)) z ∙ sym c.if-has_stamp.ensures in
+    ap (λ e. Some e) c.new-then-has_stamp.ensures ∙ sym (first_here (card_fault c.args.cards.now) p (length c.args.cards.now) _ c.loop-place.invariant
+    (twice c.args.cards.now p (sym c.if-not-in_range.ensures) o) c.loop-place-test.true)
 
 pub returns : goal.returns
 returns c =

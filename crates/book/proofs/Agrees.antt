@@ -1,7 +1,7 @@
 -- The reader's checks on index and marks are the rules on what was said.
 use Rattle.std.proofs.Common.{◌≡◌, ℕ, ◌<◌, ◌≤◌, Bool, true, false, cond, not, ◌&&◌, ◌||◌, eqb, ltb, leb, ◌⊎◌, List, [], ◌∷◌, ◌++◌, length, get_or, set, is_some, Some, None, Ok, Err, Option, Result, sym, refl, ap, ◌∙◌, subst, inl, inr, arith}
 use Rattle.std.proofs.lemmas.List.{get_or-set_same, get_or-set_other, length_push, length-set}
-use Rattle.std.proofs.lemmas.Bool.{and_from, and_parts, eq-eqb, ne_eqb, eqb-true, eqb-false, leb-true, lt-leb, le-leb, ltb-true, ltb-false, or_cases, or_from, or_left, or_right}
+use Rattle.std.proofs.lemmas.Bool.{and_from, and_parts, eq-eqb, ne_eqb, eqb-true, eqb-false, leb-true, lt-leb, le-leb, ltb-true, ltb-false, or_cases, or_left, or_right}
 use Rattle.refusal.specs.declared.Reason.{Reason}
 use Rattle.refusal.specs.declared.Reason.TheVariants.{DuplicateStamp, UnknownStamp, SelfPair, Repeated, TooMany}
 use Rattle.format.specs.declared.card.Card.{Card}
@@ -14,9 +14,9 @@ use Rattle.book.specs.declared.reader.Fault.{Fault}
 use Rattle.book.specs.Marks.{marked, toggled}
 use Rattle.book.specs.Reading.{TellsPairs}
 use Rattle.book.specs.Spaces.{stamp_at}
-use Rattle.book.specs.Stands.{carded, fault_of, filed, indexed, located, marking, pair_marked, withdrawing}
+use Rattle.book.specs.Stands.{carded, fault_of, filed, indexed, marking, pair_marked, withdrawing}
 use Rattle.book.proofs.Pairs.{SamePlaces, marked_swap, sides, toggled_own, toggled_other, toggled_whole}
-use Rattle.book.proofs.Places.{Knows, Named, knows_push, knows_some, named_push, none_from, on_card_lem, only, place_found, place_of, place_res}
+use Rattle.book.proofs.Places.{Knows, Named, knows_push, knows_some, named_push, on_card_lem, only, place_found, place_of, place_res}
 
 -- An answer agrees with the first broken rule: the fault is that rule's, and without one what is held is as it should be.
 abbrev pub Agrees : {X : Type 0} → (X → Type 0) → Result X Fault → Option Reason → Type 0

@@ -1,5 +1,5 @@
 -- What a reading answers, from what was found.
-use Rattle.std.proofs.Common.{◌≡◌, ℕ, ◌+◌, ◌-◌, ◌<◌, ◌≤◌, Bool, true, false, cond, ltb, List, ◌++◌, length, get_or, take, drop, replicate, is_ok, Ok, Err, Result, sym, refl, ap, ◌∙◌, subst, append_assoc, zero-add, arith}
+use Rattle.std.proofs.Common.{◌≡◌, ℕ, ◌-◌, ◌≤◌, Bool, false, cond, List, ◌++◌, length, get_or, take, drop, replicate, Ok, Err, Result, sym, refl, ap, ◌∙◌, subst, append_assoc, zero-add, arith}
 use Rattle.std.proofs.lemmas.List.FromFn.{get_or-map-range_with_len}
 use Rattle.std.proofs.lemmas.List.{drop_at, length-append, length-drop, take_at}
 use Rattle.std.proofs.lemmas.Bool.{le-ltb}
@@ -16,9 +16,8 @@ use Rattle.format.proofs.Logic.{err_ok}
 use Rattle.book.specs.declared.index.IndexRecord.{IndexRecord}
 use Rattle.book.specs.declared.open.OpenBook.{OpenBook}
 use Rattle.book.specs.declared.reader.Reader.{Reader}
-use Rattle.book.specs.Reading.{Finds, Holds, IndexAfter, MarksAfter, Means, Outcome, TellsPairs, answer_of, at_records, book_of, cards_after, outcome, untouched}
+use Rattle.book.specs.Reading.{Finds, Holds, IndexAfter, MarksAfter, Means, Outcome, TellsPairs, answer_of, at_records, cards_after, outcome, untouched}
 use Rattle.book.specs.Spaces.{no_card, no_index, stamp_at}
-use Rattle.book.specs.Stands.{fresh}
 use Rattle.book.proofs.Agrees.{tells_both}
 use Rattle.book.proofs.Pairs.{marked_front}
 

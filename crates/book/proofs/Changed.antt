@@ -1,5 +1,5 @@
 -- One pair is changed, and no other.
-use Rattle.std.proofs.Common.{◌≡◌, ℕ, ◌<◌, ◌≤◌, Bool, true, false, cond, not, ◌&&◌, ◌||◌, eqb, List, length, is_some, Some, None, sym, refl, ap, ◌∙◌}
+use Rattle.std.proofs.Common.{◌≡◌, ℕ, ◌<◌, ◌≤◌, Bool, true, false, cond, not, ◌&&◌, ◌||◌, eqb, List, length, is_some, None, sym, refl, ap, ◌∙◌}
 use mathlib.Core.Bool.{beq}
 use Rattle.std.proofs.lemmas.List.{drop-set-lt}
 use Rattle.refusal.specs.declared.Reason.TheVariants.{OutOfSection, SelfPair, Repeated, BadList, ShortSpace, Missing}
@@ -7,7 +7,7 @@ use Rattle.format.specs.Grammar.{same_pair}
 use Rattle.format.proofs.Logic.{clash, kept}
 use Rattle.book.specs.declared.open.OpenBook.{OpenBook}
 use Rattle.book.specs.Changes.{OnePair, beyond, pair_fault, short_spaces}
-use Rattle.book.specs.Marks.{bit_of, flipped, marked, tells, toggled}
+use Rattle.book.specs.Marks.{flipped, marked, tells, toggled}
 use Rattle.book.proofs.Agrees.{same_had, same_own}
 use Rattle.book.proofs.Pairs.{bit_below, toggled_other, toggled_own, toggled_whole}
 

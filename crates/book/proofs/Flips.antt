@@ -1,10 +1,10 @@
 -- One bit is changed, and no other.
-use Rattle.std.proofs.Common.{◌≡◌, ℕ, zero, suc, ◌+◌, ◌-◌, ◌*◌, ◌/◌, ◌%◌, ◌^◌, ◌<◌, ◌≤◌, Bool, true, false, cond, not, eqb, ◌⊎◌, List, [], ◌∷◌, length, get_or, set, replicate, sym, refl, ap, ◌∙◌, subst, inl, inr, ⊎_elim, add-zero, add-suc, suc-mul, mul-le-mul, pow-suc, zero-add, mul-suc, arith, get_or-set_other, get_or-set_same}
+use Rattle.std.proofs.Common.{◌≡◌, ℕ, zero, suc, ◌+◌, ◌-◌, ◌*◌, ◌/◌, ◌%◌, ◌^◌, ◌<◌, ◌≤◌, Bool, true, false, not, eqb, List, [], ◌∷◌, length, get_or, set, replicate, sym, refl, ap, ◌∙◌, inl, inr, add-zero, add-suc, suc-mul, mul-le-mul, pow-suc, zero-add, mul-suc, arith, get_or-set_other, get_or-set_same}
 use native.Mathlib.Nat.{mul-mod_left}
 use Rattle.std.proofs.lemmas.List.{length-set}
 use lib.Bits.{bit_xor, xor_zero_r}
 use Rattle.std.proofs.lemmas.Nat.{pow_pos, pow-add, pow_below, shl-shr, xor_shr, xor_mod, div_below}
-use Rattle.std.proofs.lemmas.Bool.{cases_lt, eq-eqb, ne_eqb, eqb-true, eqb-false}
+use Rattle.std.proofs.lemmas.Bool.{cases_lt, eqb-true, eqb-false}
 use Rattle.book.specs.Marks.{bit_at, flipped, pair_number}
 
 pow_over : (d m : ℕ) → 2 ^ (d + m) / 2 ^ m ≡ 2 ^ d

@@ -1,9 +1,8 @@
 -- A stand of the reader represents a draft, and a step keeps that.
-use Rattle.std.proofs.Common.{◌≡◌, ℕ, ◌-◌, ◌<◌, ◌≤◌, Bool, true, false, cond, not, List, [], ◌∷◌, ◌++◌, map, length, get_or, replicate, is_some, Some, None, Ok, Err, Option, Result, unwrap_or, sym, refl, ap, ◌∙◌, subst, arith}
+use Rattle.std.proofs.Common.{◌≡◌, ℕ, ◌-◌, ◌≤◌, Bool, true, false, cond, not, List, [], ◌∷◌, ◌++◌, length, replicate, is_some, Some, None, Ok, Err, Result, unwrap_or, sym, refl, ap, subst, arith}
 use Rattle.std.proofs.lemmas.List.FromFn.{fill_by_all}
 use Rattle.std.proofs.lemmas.List.{get_or-replicate}
 use Rattle.std.proofs.lemmas.Bool.{and_parts}
-use Rattle.std.specs.List.{range_with_len}
 use Rattle.refusal.specs.declared.Reason.{Reason}
 use Rattle.refusal.specs.declared.Reason.TheVariants.{Truncated, UnknownKind, OutOfSection, OutOfRange}
 use Rattle.format.specs.declared.card.Card.{Card}
@@ -17,7 +16,6 @@ use Rattle.format.specs.Sections.{is_done, next}
 use Rattle.format.specs.Rules.{Draft, blank, byte_rules, first_broken, own_rules, record_rules, taken}
 use Rattle.format.proofs.Logic.{clash}
 use Rattle.book.specs.declared.index.IndexRecord.{IndexRecord}
-use Rattle.book.specs.declared.reader.Fault.{Fault}
 use Rattle.book.specs.Reading.{TellsPairs, withdrawn_marks}
 use Rattle.book.specs.Stands.{Stand, carded, fault_of, pair_marked, placed, placed_in, step_of, withdrawing}
 use Rattle.book.proofs.Agrees.{Agrees, Carded, Gone, agrees_by, agrees_map, card_agrees, pair_agrees, withdrawn_agrees}

@@ -1,8 +1,8 @@
 -- Marks by pairs of places: turning the mark of one pair leaves every other.
-use Rattle.std.proofs.Common.{◌≡◌, ℕ, ◌/◌, ◌%◌, ◌^◌, ◌<◌, ◌≤◌, Bool, true, false, cond, not, eqb, ltb, ◌⊎◌, List, ◌++◌, length, get_or, replicate, sym, refl, ap, ◌∙◌, subst, inl, inr, arith}
+use Rattle.std.proofs.Common.{◌≡◌, ℕ, ◌/◌, ◌%◌, ◌^◌, ◌<◌, ◌≤◌, Bool, true, false, cond, not, eqb, ltb, ◌⊎◌, List, ◌++◌, length, replicate, sym, refl, ap, ◌∙◌, subst, inl, inr, arith}
 use Rattle.std.proofs.lemmas.List.{get_or_append_left}
-use Rattle.std.proofs.lemmas.Bool.{cases_lt, eq-eqb, eqb-false, eqb-true, lt-ltb, le-ltb, ne_eqb}
-use Rattle.book.specs.Marks.{bit_at, bit_of, flipped, marked, pair_number, tells, toggled}
+use Rattle.std.proofs.lemmas.Bool.{cases_lt, eqb-false, eqb-true, lt-ltb, le-ltb, ne_eqb}
+use Rattle.book.specs.Marks.{bit_at, bit_of, marked, pair_number, tells, toggled}
 use Rattle.book.proofs.Flips.{flip_own, flip_other, number_inj, number_below, length_flipped, none_set}
 
 bit_lt : (u v : ℕ) → u < v → bit_of u v ≡ pair_number u v

@@ -1,5 +1,5 @@
 -- The turns of the reader's loop, and what is held at its end.
-use Rattle.std.proofs.Common.{◌≡◌, ℕ, ◌+◌, ◌-◌, ◌<◌, ◌≤◌, true, false, cond, List, [], ◌++◌, length, take, drop, replicate, is_ok, Some, None, Ok, Err, Option, Result, sym, refl, ap, ◌∙◌, subst, arith}
+use Rattle.std.proofs.Common.{◌≡◌, ℕ, ◌+◌, ◌-◌, ◌<◌, ◌≤◌, false, cond, List, ◌++◌, length, take, drop, replicate, is_ok, Some, None, Ok, Err, Option, Result, sym, refl, ap, ◌∙◌, subst, arith}
 use Rattle.std.proofs.lemmas.List.{drop_all, drop-drop, drop-replicate, length-drop, length-take-le, take-append-drop}
 use Rattle.refusal.specs.Refusals.{refused_over}
 use Rattle.refusal.specs.declared.Layer.TheVariants.{Book as BookLayer}

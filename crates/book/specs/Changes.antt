@@ -1,5 +1,5 @@
 -- Changes of an open book: the checks in their order, and what is then held.
-use Rattle.std.specs.Prelude.{◌≡◌, ℕ, ◌<◌, Bool, true, false, cond, not, ◌&&◌, ◌||◌, List, [], ◌∷◌, length, drop, set, is_some, Some, None, Ok, Err, Option, Result, ◌==◌, nat_le, nat_lt, slice_index_or, slice_set}
+use Rattle.std.specs.Prelude.{◌≡◌, ℕ, ◌<◌, Bool, true, false, cond, not, ◌&&◌, ◌||◌, List, [], ◌∷◌, length, drop, is_some, Some, None, Ok, Err, Option, Result, ◌==◌, nat_le, nat_lt, slice_index_or, slice_set}
 use Rattle.refusal.specs.Refusals.{refused}
 use Rattle.refusal.specs.declared.Layer.TheVariants.{Book as BookLayer}
 use Rattle.refusal.specs.declared.Reason.{Reason}

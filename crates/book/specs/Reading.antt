@@ -1,5 +1,5 @@
 -- What a reading answers, what the spaces hold after it, and what that means.
-use Rattle.std.specs.Prelude.{◌≡◌, ℕ, ◌-◌, ◌<◌, ◌≤◌, Bool, true, false, cond, List, [], ◌++◌, map, length, take, drop, replicate, Ok, Err, Result, ◌≢◌, nat_lt, slice_index_or}
+use Rattle.std.specs.Prelude.{◌≡◌, ℕ, ◌-◌, ◌<◌, ◌≤◌, Bool, false, cond, List, ◌++◌, map, length, take, drop, replicate, Ok, Err, Result, ◌≢◌, nat_lt, slice_index_or}
 use Rattle.std.specs.List.{range_with_len}
 use Rattle.refusal.specs.Refusals.{refused}
 use Rattle.refusal.specs.declared.Layer.TheVariants.{Book as BookLayer}
@@ -13,8 +13,7 @@ use Rattle.book.specs.declared.index.IndexRecord.{IndexRecord}
 use Rattle.book.specs.declared.open.OpenBook.{OpenBook}
 use Rattle.book.specs.declared.reader.Reader.{Reader}
 use Rattle.book.specs.Marks.{marked}
-use Rattle.book.specs.Spaces.{no_card, no_index, stamp_at, too_short}
-use Rattle.book.specs.Stands.{fresh}
+use Rattle.book.specs.Spaces.{no_card, no_index, stamp_at}
 
 -- which of the 256 places are withdrawn: those whose stamp is said so
 abbrev pub withdrawn_marks : Draft → List Bool

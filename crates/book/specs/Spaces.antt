@@ -1,5 +1,5 @@
 -- The caller's spaces: how long they have to be, and what stands for nothing in them.
-use Rattle.std.specs.Prelude.{◌≡◌, ℕ, ◌≤◌, Bool, false, ◌||◌, List, pos, nat_lt, slice_index_or}
+use Rattle.std.specs.Prelude.{ℕ, Bool, ◌||◌, List, pos, nat_lt, slice_index_or}
 use Rattle.format.specs.declared.card.Card.{Card}
 use Rattle.book.specs.declared.index.IndexRecord.{IndexRecord}
 

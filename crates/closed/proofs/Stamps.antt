@@ -1,11 +1,10 @@
 -- A stamp among cards, one card further; and what cards without a fault tell.
-use Rattle.std.proofs.Common.{◌≡◌, ℕ, ◌+◌, ◌<◌, Bool, true, false, cond, not, ◌&&◌, ltb, List, length, get_or, take, drop, Some, None, Ok, Err, Option, sym, refl, ap, ◌∙◌, arith}
+use Rattle.std.proofs.Common.{◌≡◌, ℕ, ◌+◌, ◌<◌, Bool, true, false, cond, not, ◌&&◌, List, length, get_or, take, drop, Some, None, Ok, Err, Option, sym, refl, ap, ◌∙◌, arith}
 use Rattle.std.proofs.lemmas.List.{at_drop_more}
 use Rattle.std.proofs.lemmas.Bool.{and_from, and_parts, eq-eqb, lt-ltb, ne_eqb, not_from_false}
 use Rattle.refusal.specs.Refusals.{refused}
 use Rattle.refusal.specs.declared.Layer.TheVariants.{Book as BookLayer}
 use Rattle.refusal.specs.declared.Reason.TheVariants.{OutOfRange, DuplicateStamp, ShortSpace}
-use Rattle.refusal.specs.declared.Refusal.{Refusal}
 use Rattle.format.specs.declared.card.Card.{Card}
 use Rattle.format.specs.declared.card.Rule.{Rule}
 use Rattle.format.specs.Grammar.{on_card}

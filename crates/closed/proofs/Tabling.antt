@@ -1,25 +1,23 @@
 -- A book that was read closes, and tells what its bytes say.
-use Rattle.std.proofs.Common.{◌≡◌, ℕ, zero, suc, ◌<◌, ◌≤◌, min, Bool, true, false, cond, not, ◌&&◌, ◌||◌, eqb, ltb, List, [], ◌∷◌, ◌++◌, length, get_or, take, Some, None, Ok, Err, Option, Result, sym, refl, ap, ◌∙◌, subst, append_assoc, arith}
+use Rattle.std.proofs.Common.{◌≡◌, ℕ, zero, suc, ◌<◌, ◌≤◌, Bool, true, false, cond, not, ◌&&◌, ◌||◌, eqb, ltb, List, [], ◌∷◌, ◌++◌, length, get_or, take, None, Ok, Option, Result, sym, refl, ap, ◌∙◌, append_assoc, arith}
 use Rattle.std.proofs.lemmas.List.{append-nil, get_or_past}
-use Rattle.std.proofs.lemmas.Bool.{and_parts, eqb-false, eqb-true, le-ltb, ltb-false, ltb-true, or_from, or_parts}
+use Rattle.std.proofs.lemmas.Bool.{eqb-false, eqb-true, ltb-false, ltb-true, or_from, or_parts}
 use Rattle.std.specs.Option.{option_or}
 use Rattle.refusal.specs.declared.Refusal.{Refusal}
 use Rattle.format.specs.declared.card.Card.{Card}
-use Rattle.format.specs.declared.card.Rule.{Rule}
-use Rattle.format.specs.Grammar.{Terms, by_pairs, by_rule, Contents, EachAfter, GoodCard, Says, WellFormed, on_card, said, said_pair}
+use Rattle.format.specs.Grammar.{Terms, by_pairs, by_rule, Contents, EachAfter, GoodCard, WellFormed, on_card, said_pair}
 use Rattle.format.specs.Records.{card_ok, stamp_ok}
 use Rattle.format.specs.Theorems.{pairs_in, rule_in}
 use Rattle.pairs.specs.Checks.{first_fault}
 use Rattle.book.specs.declared.open.OpenBook.{OpenBook}
 use Rattle.book.specs.Changes.{short_spaces}
-use Rattle.book.specs.Marks.{marked, tells}
+use Rattle.book.specs.Marks.{tells}
 use Rattle.book.specs.Reading.{Holds}
 use Rattle.book.specs.Spaces.{no_card, stamp_at, too_short}
 use Rattle.book.proofs.Pairs.{tells_marked}
-use Rattle.closed.specs.Closes.{Plain, by_marks, card_fault, close_fault, closing, kind_of}
-use Rattle.closed.specs.Closes.{by_rule as ruled_book}
-use Rattle.closed.specs.Tables.{agree, below, pair_graph, rule_graph, size_of, stamp_told, tells_apart}
-use Rattle.closed.specs.Tells.{Tells, by_terms, partners_in}
+use Rattle.closed.specs.Closes.{Plain, card_fault, close_fault, closing, kind_of}
+use Rattle.closed.specs.Tables.{agree, below, size_of, stamp_told, tells_apart}
+use Rattle.closed.specs.Tells.{Tells, by_terms}
 use Rattle.closed.proofs.Stamps.{fine, made, told}
 
 -- each card of a well-formed book is in range and has a stamp of its own

@@ -1,5 +1,5 @@
 -- Closing a book: the spaces, then card by card the fields and the stamp.
-use Rattle.std.specs.Prelude.{◌≡◌, ℕ, ◌<◌, Bool, cond, List, length, take, Some, None, Ok, Err, Option, Result, slice_index_or}
+use Rattle.std.specs.Prelude.{◌≡◌, ℕ, ◌<◌, cond, List, length, take, Some, None, Ok, Err, Option, Result, slice_index_or}
 use Rattle.refusal.specs.Refusals.{refused}
 use Rattle.refusal.specs.declared.Layer.TheVariants.{Book as BookLayer}
 use Rattle.refusal.specs.declared.Reason.TheVariants.{OutOfRange, DuplicateStamp, ShortSpace}

@@ -1,6 +1,6 @@
 -- What closed books tell: partners by pair marks or under a rule, and stamps; with the laws of pair tables.
-use Rattle.std.specs.Prelude.{◌≡◌, ℕ, zero, suc, ◌+◌, ◌<◌, ◌≤◌, min, Bool, true, false, cond, not, ◌&&◌, ◌||◌, ◌⊎◌, List, [], ◌∷◌, length, take, ℤ, pos, ◌+ℤ◌, ◌==◌, ◌≢◌, int_le, nat_le, nat_lt, slice_index_or, refl}
-use Rattle.std.proofs.Common.{inl, inr, sym, ◌∙◌, ap, arith, eq-eqb, eqb-true, ltb-false, ltb-true, ne_eqb}
+use Rattle.std.specs.Prelude.{◌≡◌, ℕ, zero, suc, ◌+◌, ◌<◌, ◌≤◌, min, Bool, true, false, cond, not, ◌&&◌, ◌||◌, List, [], ◌∷◌, length, take, ℤ, pos, ◌+ℤ◌, ◌==◌, ◌≢◌, int_le, nat_le, nat_lt, slice_index_or, refl}
+use Rattle.std.proofs.Common.{sym, ◌∙◌, ap, arith, eq-eqb, eqb-true, ltb-false, ltb-true, ne_eqb}
 use Rattle.std.proofs.lemmas.Bool.{eqb-false}
 use Rattle.cliques.specs.Graph.{Graph, Lawful}
 use Rattle.format.specs.declared.card.Card.{Card}

@@ -1,11 +1,11 @@
 -- Reading by the rules accepts exactly the books of the grammar, and names the first fault of all other bytes.
-use Rattle.std.proofs.Common.{◌≡◌, ℕ, ◌+◌, List, [], ◌++◌, length, Ok, Err, Result, sym, refl, ap, ◌∙◌, subst, zero-add, arith}
+use Rattle.std.proofs.Common.{◌≡◌, ℕ, List, ◌++◌, length, Ok, Err, Result, sym, refl, ap, ◌∙◌, zero-add, arith}
 use Rattle.std.proofs.lemmas.List.{append-nil}
 use Rattle.refusal.specs.declared.Refusal.{Refusal}
 use Rattle.format.specs.Sections.{is_done}
 use Rattle.format.specs.Grammar.{Contents, Says, encoded, records_of}
 use Rattle.format.specs.Rules.{Draft, blank, refused_at, read_book, run}
-use Rattle.format.specs.Theorems.{after, draft_of, Bytes, Verdict, ReadsExactly}
+use Rattle.format.specs.Theorems.{after, draft_of, Verdict, ReadsExactly}
 use Rattle.format.proofs.Logic.{err_ok}
 use Rattle.format.proofs.Runs.{Halts, halts, reads_on}
 use Rattle.format.proofs.Shapes.{contents, fits, leads}

@@ -1,13 +1,12 @@
 -- A record's bytes and the record that they begin are one and the same.
-use Rattle.std.proofs.Common.{◌≡◌, ℕ, ◌+◌, ◌*◌, ◌/◌, ◌%◌, ◌<◌, ◌≤◌, Bool, true, false, cond, eqb, ltb, ◌⊎◌, List, [], ◌∷◌, ◌++◌, length, get_or, drop, sym, refl, ap, ◌∙◌, subst, inl, inr, arith, w16, SFits, to_z, of_z, rules}
+use Rattle.std.proofs.Common.{◌≡◌, ℕ, ◌+◌, ◌*◌, ◌/◌, ◌%◌, ◌<◌, ◌≤◌, false, cond, eqb, List, ◌∷◌, ◌++◌, length, get_or, drop, sym, refl, ap, ◌∙◌, subst, inl, inr, arith, w16, SFits, to_z, of_z, rules}
 use mir.Facts.{sfits_to_z}
 use Rattle.std.proofs.lemmas.List.{drop_more}
 use Rattle.std.proofs.lemmas.Int.{to_z-of_z, of_z-to_z}
-use Rattle.std.proofs.lemmas.Bool.{and_right, cases_eq, eqb-false, le-ltb, ltb-false, ne_eqb, or_from, or_parts}
-use Rattle.format.specs.declared.card.Card.{Card}
+use Rattle.std.proofs.lemmas.Bool.{and_right, cases_eq, le-ltb, ne_eqb, or_from}
 use Rattle.format.specs.declared.records.Record.{Record}
 use Rattle.format.specs.declared.records.Record.TheVariants.{Card as CardRecord, Rule as RuleRecord, Pair as PairRecord, Withdrawn as WithdrawnRecord, End as EndRecord}
-use Rattle.format.specs.Records.{bytes_of, card_of, cut_short, four_at, kind_of, length_of_kind, record_of, rule_of, two_at, unknown_kind}
+use Rattle.format.specs.Records.{bytes_of, card_of, cut_short, kind_of, length_of_kind, record_of, rule_of, two_at, unknown_kind}
 use Rattle.format.specs.Theorems.{Bytes}
 
 -- the fields fit their bytes

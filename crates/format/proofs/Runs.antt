@@ -1,5 +1,5 @@
 -- How reading by the rules goes from record to record.
-use Rattle.std.proofs.Common.{◌≡◌, ℕ, zero, suc, ◌+◌, ◌-◌, ◌<◌, ◌≤◌, Bool, true, false, cond, not, ◌&&◌, eqb, List, [], ◌∷◌, ◌++◌, length, get_or, drop, is_some, Some, None, Ok, Err, Option, Result, sym, refl, ap, ◌∙◌, subst, append_assoc, add-zero, arith}
+use Rattle.std.proofs.Common.{◌≡◌, ℕ, zero, suc, ◌+◌, ◌-◌, ◌<◌, ◌≤◌, Bool, true, false, cond, not, ◌&&◌, eqb, List, [], ◌∷◌, ◌++◌, length, drop, is_some, Some, None, Ok, Err, Option, Result, sym, refl, ap, ◌∙◌, subst, append_assoc, add-zero, arith}
 use Rattle.std.proofs.lemmas.List.{get_or-drop, length-append, length-drop}
 use Rattle.std.proofs.lemmas.Bool.{and_right, eqb-false, ltb-false, lt-ltb, ne_eqb, not-false, or_parts}
 use Rattle.std.specs.List.{AllByRecursion as All}
@@ -16,7 +16,7 @@ use Rattle.format.specs.Grammar.{encoded}
 use Rattle.format.specs.Rules.{Draft, taken, record_rules, byte_rules, first_broken, refused_at, run}
 use Rattle.format.specs.Theorems.{after, Kept, Bytes}
 use Rattle.format.proofs.Lexed.{Fit, begins, spelt}
-use Rattle.format.proofs.Logic.{clash, keep, kept, some_none}
+use Rattle.format.proofs.Logic.{clash, keep, kept}
 
 -- the length of the record that begins the bytes
 abbrev pub size_in : List ℕ → ℕ

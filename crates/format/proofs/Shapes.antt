@@ -1,5 +1,5 @@
 -- The records of well-formed contents keep every rule, and records that keep every rule up to an end are such.
-use Rattle.std.proofs.Common.{◌≡◌, ℕ, ◌+◌, ◌<◌, ◌≤◌, Bool, true, false, cond, not, ◌&&◌, eqb, leb, List, [], ◌∷◌, ◌++◌, map, length, ℤ, pos, negsuc, Some, None, Option, sym, refl, ap, ◌∙◌, subst, append_assoc, arith, w16, SFits}
+use Rattle.std.proofs.Common.{◌≡◌, ℕ, ◌+◌, ◌<◌, ◌≤◌, true, false, not, ◌&&◌, eqb, leb, List, [], ◌∷◌, ◌++◌, map, length, ℤ, pos, negsuc, Some, None, Option, sym, refl, ap, ◌∙◌, subst, append_assoc, arith, w16, SFits}
 use lib.Signed.{le_z}
 use Rattle.std.proofs.lemmas.List.{append-nil, length-append}
 use Rattle.std.proofs.lemmas.Int.{ints}
@@ -14,7 +14,7 @@ use Rattle.format.specs.declared.records.Section.{Section}
 use Rattle.format.specs.declared.records.Section.TheVariants.{Cards, Ruled, Paired, Withdrawing, Done}
 use Rattle.format.specs.Records.{card_ok, fields_ok, stamp_ok}
 use Rattle.format.specs.Sections.{is_done}
-use Rattle.format.specs.Grammar.{Terms, by_rule, by_pairs, Contents, pair_record, term_records, last_records, records_of, on_card, said_pair, said, EachAfter, GoodCard, GoodRule, GoodPair, GoodWithdrawn, GoodTerms, WellFormed}
+use Rattle.format.specs.Grammar.{Terms, by_rule, by_pairs, Contents, pair_record, term_records, last_records, records_of, on_card, said_pair, said, EachAfter, GoodCard, GoodPair, GoodWithdrawn, GoodTerms, WellFormed}
 use Rattle.format.specs.Rules.{Draft, blank, Test, first_broken, own_rules}
 use Rattle.format.specs.Theorems.{after, Kept, draft_of, rule_in, pairs_in}
 use Rattle.format.proofs.Lexed.{Fit}

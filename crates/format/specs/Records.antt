@@ -1,5 +1,5 @@
 -- A record is a kind byte, then a body whose length the kind fixes; numbers have the high byte first.
-use Rattle.std.specs.Prelude.{ℕ, ◌+◌, ◌-◌, ◌*◌, ◌/◌, ◌%◌, Bool, true, false, cond, not, ◌&&◌, ◌||◌, List, [], ◌∷◌, ◌++◌, length, pos, negsuc, Ok, Err, Result, ◌==◌, int_le, nat_le, nat_lt, slice_index}
+use Rattle.std.specs.Prelude.{ℕ, ◌+◌, ◌-◌, ◌*◌, ◌/◌, ◌%◌, Bool, true, cond, not, ◌&&◌, ◌||◌, List, [], ◌∷◌, ◌++◌, length, pos, negsuc, Ok, Err, Result, ◌==◌, int_le, nat_le, nat_lt, slice_index}
 use Rattle.std.specs.Int.{w16}
 use Rattle.std.proofs.Common.{of_z, to_z}
 use Rattle.refusal.specs.declared.Reason.{Reason}

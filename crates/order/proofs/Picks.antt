@@ -2,7 +2,6 @@
 use Rattle.std.proofs.Common.{◌≡◌, ℕ, zero, suc, ◌<◌, ◌≤◌, Bool, true, false, cond, eqb, ltb, ◌⊎◌, List, [], ◌∷◌, length, sym, refl, ap, ◌∙◌, subst, inl, inr, arith}
 use Rattle.std.proofs.lemmas.Bool.{ne_eqb, cases_eq}
 use Rattle.std.proofs.lemmas.Bool.Decides.{nat_tests}
-use Rattle.cliques.specs.Sets.{places}
 use Rattle.order.specs.Orders.{bit, how_many, times, after, later, minus, precedes, pick, taken, Permutation}
 use Rattle.order.proofs.Counts.{in_cons, in_here, in_there, many_minus, length_minus, times_minus, many_sub, after_here, after_there, places_in}
 

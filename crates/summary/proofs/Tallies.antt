@@ -1,5 +1,5 @@
 -- What is counted after a reading is what the book says: each pair and each withdrawn roll is one.
-use Rattle.std.proofs.Common.{◌≡◌, ℕ, zero, suc, ◌+◌, ◌<◌, ◌≤◌, Bool, true, false, cond, ◌||◌, eqb, ltb, ◌⊎◌, List, [], ◌∷◌, ◌++◌, length, get_or, is_some, Some, None, Ok, Err, Option, Result, sym, refl, ap, ◌∙◌, subst, inl, inr, append_assoc, arith}
+use Rattle.std.proofs.Common.{◌≡◌, ℕ, zero, suc, ◌+◌, ◌<◌, ◌≤◌, Bool, true, false, cond, eqb, ltb, List, [], ◌∷◌, ◌++◌, length, get_or, Some, None, Ok, Err, Option, Result, sym, refl, ap, ◌∙◌, subst, inl, inr, append_assoc, arith}
 use Rattle.std.proofs.lemmas.List.{append-nil, length_push}
 use Rattle.std.proofs.lemmas.Bool.{eq-eqb, eqb-false, le-ltb, lt-ltb, ltb-false, ltb-true, ne_eqb}
 use Rattle.refusal.specs.Refusals.{refused}
@@ -19,7 +19,7 @@ use Rattle.closed.specs.declared.books.ClosedBook.{ClosedBook}
 use Rattle.closed.specs.Closes.{Plain, book_in, by_marks, cards_in, graph_of, plain}
 use Rattle.closed.specs.Closes.{by_rule as ruled_book}
 use Rattle.closed.specs.Tells.{ReadsClosed, Tells, by_terms, partners_in}
-use Rattle.summary.specs.declared.facts.Terms.TheVariants.{Pairs, Rule as ByRule}
+use Rattle.summary.specs.declared.facts.Terms.TheVariants.{Pairs}
 use Rattle.book.proofs.Answered.{same_err}
 use Rattle.book.proofs.Agrees.{places_apart, places_pair, push_false, push_true, said_swap, stamp_pos}
 use Rattle.summary.proofs.Counts.{count_none, count_one, count_same, sum_one, sum_same}

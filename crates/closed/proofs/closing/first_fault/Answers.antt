@@ -1,9 +1,8 @@
-use Rattle.std.proofs.Common.{◌≡◌, ◌-◌, true, false, length, get_or, take, Some, sym, ap, ◌∙◌, arith}
+use Rattle.std.proofs.Common.{◌≡◌, ◌-◌, true, false, length, take, Some, sym, ap, ◌∙◌, arith}
 use Rattle.format.specs.Grammar.{on_card}
-use Rattle.format.specs.Records.{card_ok}
 use Rattle.pairs.specs.Checks.{first_fault}
 use Rattle.pairs.proofs.Faults.{first_here, none_more}
-use Rattle.book.specs.Spaces.{no_card, stamp_at}
+use Rattle.book.specs.Spaces.{stamp_at}
 use Rattle.closed.specs.Closes.{card_fault}
 use Rattle.closed.proofs.Stamps.{fine, ill, twice}
 use Rattle.closed.proofs.closing.first_fault.Goals as goal

@@ -1,7 +1,7 @@
 use Rattle.std.proofs.Common.{◌≡◌, ℕ, ◌≤◌, List, length, take, drop, sym, ap, ◌∙◌, subst, arith}
 use Rattle.std.proofs.lemmas.Bool.{and_from, le-leb}
 use Rattle.cliques.specs.Sets.{places}
-use Rattle.order.specs.Orders.{heads_first, degeneracy_order, Degeneracy, Ordered, taken, most}
+use Rattle.order.specs.Orders.{heads_first, degeneracy_order, Degeneracy, taken, most}
 use Rattle.order.proofs.Degenerate.{degenerate}
 use Rattle.order.proofs.degeneracy.degeneracy_order.Goals as goal
 

@@ -1,6 +1,5 @@
 use Rattle.std.proofs.Common.{◌≡◌, ℕ, ◌<◌, true, List, length, set, sym, refl, ap, ◌∙◌, subst, inl, inr, arith}
 use Rattle.std.proofs.lemmas.Bool.{cases_eq, cases_lt, both_ways}
-use Rattle.sorted.specs.Held.{room}
 use Rattle.order.specs.declared.tallies.Tally.{Tally}
 use Rattle.cliques.specs.Sets.{places}
 use Rattle.order.specs.Orders.{how_many}

@@ -1,6 +1,5 @@
 use Rattle.std.proofs.Common.{◌≡◌, ℕ, ◌+◌, ◌<◌, max, List, [], ◌++◌, length, take, set, sym, refl, ap, ◌∙◌, subst, arith, rules}
 use Rattle.std.proofs.lemmas.List.{append-nil, drop-set-lt}
-use Rattle.sorted.specs.Held.{room}
 use Rattle.order.specs.declared.tallies.Tally.{Tally}
 use Rattle.cliques.specs.Sets.{places}
 use Rattle.order.specs.Orders.{taken, most}

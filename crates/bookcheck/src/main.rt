@@ -1,9 +1,9 @@
 //! `bookcheck` reads a roll book on standard input and tells what it holds, or the first thing that is wrong with it.
 #![tactic(auto)]
 
-use anyhow::anyhow;
 use std::io;
 use std::io::Read;
+use std::process::ExitCode;
 use summary::check;
 
 // One byte more than a book may have is enough to tell that it is too long.
@@ -25,11 +25,11 @@ fn run(rt: &HostRuntime) -> io::Result<bool> {
     }
 }
 
-fn main(rt: HostRuntime) -> anyhow::Result<()> {
-    match run(&rt) {
-        Ok(true) => Ok(()),
-        // The refusal is printed already: only the status is left to tell.
-        Ok(false) => Err(anyhow!("refused")),
-        Err(error) => Err(error.into()),
+// An accepted book ends with status 0, a refused one with 1; its refusal is printed already.
+fn main(rt: HostRuntime) -> anyhow::Result<ExitCode> {
+    if run(&rt)? {
+        Ok(ExitCode::SUCCESS)
+    } else {
+        Ok(ExitCode::FAILURE)
     }
 }

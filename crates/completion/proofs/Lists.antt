@@ -1,6 +1,7 @@
 -- Tests at each index of a list and at each place, and lists written entry by entry.
-use Rattle.std.proofs.Common.{◌≡◌, ℕ, zero, suc, ◌+◌, ◌<◌, Bool, true, false, eqb, List, [], ◌∷◌, ◌++◌, length, get_or, take, drop, set, refl, ap, ◌∙◌, le_of_suc-le-suc, not-suc-le-zero, add-one, arith}
-use Rattle.std.proofs.lemmas.Bool.{and_left, and_right, or_from, or_left, or_right, eq-eqb, ne_eqb, cond-true, cond-false}
+use Rattle.std.proofs.Common.{◌≡◌, ℕ, zero, suc, ◌+◌, ◌<◌, ◌≤◌, min, Bool, true, false, cond, eqb, ltb, ◌≢◌, List, [], ◌∷◌, ◌++◌, length, get_or, take, drop, set, replicate, sym, refl, ap, ◌∙◌, inl, inr, le_of_suc-le-suc, not-suc-le-zero, add-one, arith}
+use Rattle.std.proofs.lemmas.List.{get_or_past, get_or-replicate, get_or-set_same, get_or-set_other, length-replicate, take_all}
+use Rattle.std.proofs.lemmas.Bool.{and_left, and_right, or_from, or_left, or_right, eq-eqb, ne_eqb, lt-ltb, le-ltb, cond-true, cond-false, cases_order}
 use Rattle.cliques.specs.Sets.{has, every, first_of, places}
 use Rattle.cliques.proofs.Tests.{is_true, is_false, of_true, of_false}
 use Rattle.cliques.proofs.Members.{every_at, every_of, places_in, places_out}
@@ -60,3 +61,39 @@ push_at [] [] x h = absurd (omega arith)
 push_at [] (y ∷ d) x h = refl
 push_at (z ∷ xs) [] x h = absurd (omega arith)
 push_at (z ∷ xs) (y ∷ d) x h = ap (λ (t : List ℕ). z ∷ t) (push_at xs d x (omega arith))
+
+-- two numbers of entries that come to the same in a list
+pub take_same : (j k : ℕ) (L : List ℕ) → min j (length L) ≡ min k (length L) → take j L ≡ take k L
+take_same j k L q =
+    elim (cases_order j k) [
+      | inl e ↦ ap (λ (i : ℕ). take i L) e
+      | inr y ↦ elim y [
+        | inl h ↦ let a : length L ≤ j = omega arith in let b : length L ≤ k = omega arith in take_all j L a ∙ sym (take_all k L b)
+        | inr h ↦ let a : length L ≤ j = omega arith in let b : length L ≤ k = omega arith in take_all j L a ∙ sym (take_all k L b)
+      ]
+    ]
+
+-- a table of f, written entry by entry over zeros
+zeros_at : (n y : ℕ) → get_or {A = ℕ} (replicate n 0) y 0 ≡ 0
+zeros_at n y =
+    let l = length-replicate {A = ℕ} n 0 in
+    elim (cases_order y n) [
+      | inl e ↦ get_or_past {X = ℕ} (replicate n 0) y 0 (omega arith)
+      | inr z ↦ elim z [ inl h ↦ get_or-replicate {A = ℕ} n y 0 0 h | inr h ↦ get_or_past {X = ℕ} (replicate n 0) y 0 (omega arith) ]
+    ]
+
+pub table_none : (f : ℕ → ℕ) (n y : ℕ) → get_or {A = ℕ} (replicate n 0) y 0 ≡ cond (ltb y 0) (f y) 0
+table_none f n y = zeros_at n y ∙ sym (cond-false (ltb y 0) (f y) 0 (le-ltb y 0 (omega arith)))
+
+pub table_more : (f : ℕ → ℕ) (L : List ℕ) (x b : ℕ) → x < length L → b ≡ f x → ((y : ℕ) → get_or L y 0 ≡ cond (ltb y x) (f y) 0)
+    → (y : ℕ) → get_or (set L x b) y 0 ≡ cond (ltb y (x + 1)) (f y) 0
+table_more f L x b h q inv y =
+    elim (cases_order y x) [
+      | inl e ↦ ap (λ (z : ℕ). get_or (set L x b) z 0) e ∙ (get_or-set_same L x b 0 h ∙ (q ∙ (ap f (sym e) ∙ sym (cond-true (ltb y (x + 1)) (f y) 0 (lt-ltb y (x + 1) (omega arith))))))
+      | inr z ↦ elim z [
+        | inl l ↦ let ne : y ≢ x = omega arith in get_or-set_other L x y b 0 ne
+            ∙ (inv y ∙ (cond-true (ltb y x) (f y) 0 (lt-ltb y x l) ∙ sym (cond-true (ltb y (x + 1)) (f y) 0 (lt-ltb y (x + 1) (omega arith)))))
+        | inr l ↦ let ne : y ≢ x = omega arith in get_or-set_other L x y b 0 ne
+            ∙ (inv y ∙ (cond-false (ltb y x) (f y) 0 (le-ltb y x (omega arith)) ∙ sym (cond-false (ltb y (x + 1)) (f y) 0 (le-ltb y (x + 1) (omega arith)))))
+      ]
+    ]

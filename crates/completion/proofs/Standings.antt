@@ -1,7 +1,7 @@
 -- A set that is kept: its members again, one member more, and the entries of a list that pass a test.
 use Rattle.std.proofs.Common.{◌≡◌, ℕ, suc, ◌+◌, ◌<◌, ◌≤◌, Bool, true, false, cond, List, [], ◌∷◌, ◌++◌, length, get_or, take, drop, set, replicate, sym, refl, ap, ◌∙◌, arith}
 use lib.Seq.{take-append_seam}
-use Rattle.std.proofs.lemmas.List.{length_push, take_more, take_all, length-take-le}
+use Rattle.std.proofs.lemmas.List.{length_push, take_more, take_all, take-append-le, length-take-le}
 use Rattle.cliques.specs.Sets.{filter}
 use Rattle.completion.specs.declared.standing.Standing.{Standing}
 use Rattle.completion.specs.Standings.{standing_of, members_of}
@@ -35,6 +35,23 @@ pushed s x e h =
     let f : set s.members s.count x ≡ (X ++ (x ∷ [])) ++ drop (length (X ++ (x ∷ []))) zeros =
     ap (λ (t : List ℕ). set t s.count x) m ∙ (ap (λ (j : ℕ). set (X ++ drop (length X) zeros) j x) l ∙ (push_at X zeros x p ∙ ap (λ (j : ℕ). (X ++ (x ∷ [])) ++ drop j zeros) a)) in
     ap (λ (t : List ℕ). made t (s.count + 1)) f ∙ ap (λ (j : ℕ). made ((X ++ (x ∷ [])) ++ drop (length (X ++ (x ∷ []))) zeros) j) k
+
+-- a list of at most 256 entries that is kept, with one member more where there is room
+module _ (M : List ℕ) (x : ℕ) (s : Standing) (e : s ≡ standing_of (take 256 M)) (f : length M ≤ 256) where
+  whole : take 256 M ≡ M
+  whole = take_all 256 M f
+
+  same_count : s.count ≡ length M
+  same_count = counts s (take 256 M) e ∙ ap length whole
+
+  pub with_room : s.count < 256 → (t : Standing) → t ≡ standing_of (members_of s ++ (x ∷ [])) → t ≡ standing_of (take 256 (M ++ (x ∷ [])))
+  with_room h t p =
+      let l = length_push M x in
+      let c = same_count in
+      p ∙ ap standing_of (ap (λ (Y : List ℕ). Y ++ (x ∷ [])) (back s (take 256 M) e ∙ whole) ∙ sym (take_all 256 (M ++ (x ∷ [])) (omega arith)))
+
+  pub with_full : 256 ≤ s.count → s ≡ standing_of (take 256 (M ++ (x ∷ [])))
+  with_full h = let c = same_count in e ∙ ap standing_of (sym (take-append-le 256 M (x ∷ []) (omega arith)))
 
 -- a list gone through, and the entries that pass kept
 filter_by : (b : Bool) (p : ℕ → Bool) (y x : ℕ) (A : List ℕ)

@@ -73,8 +73,9 @@ fn can_grow<T: PairTable>(table: &T, set: &[u16]) -> bool
     false
 }
 
-// Why a list is no maximal clique.
-pub(crate) fn maximal_fault<T: PairTable>(table: &T, set: &[u16]) -> Option<Refusal>
+/// Tells why a list is refused as a maximal clique, or `None`: what `complete` refuses of the list, and then a set that a
+/// place can join (`NotMaximal`).
+pub fn maximal_fault<T: PairTable>(table: &T, set: &[u16]) -> Option<Refusal>
     ensures { result ≡ maximal_fault (T.PairTable.meaning table.now) set.now }
 {
     match set_fault(table, set) {

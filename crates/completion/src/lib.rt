@@ -8,4 +8,9 @@ mod gather;
 mod sets;
 mod standing;
 
+pub use barriers::Barriers;
 pub use calls::{complete, parent, parent_index};
+pub use checks::maximal_fault;
+pub use gather::{completed, completed_below};
+pub use sets::{is_member, members_below, partner_of_all, partners_below, smallest};
+pub use standing::Standing;

@@ -1,14 +1,15 @@
 //! Tests and parts of a set of places.
 
-ghost use Rattle.std.specs.Prelude.{◌≡◌, ◌≤◌, length};
+ghost use Rattle.std.specs.Prelude.{◌≡◌, ◌≤◌, ◌&&◌, length, nat_lt};
+ghost use Rattle.cliques.specs.Completion.{partners_below};
 ghost use Rattle.cliques.specs.Sets.{below, has, partner_of_all, smallest};
-ghost use Rattle.completion.specs.Standings.{standing_of};
+ghost use Rattle.completion.specs.Standings.{members_of, standing_of};
 
 use crate::standing::{Standing, empty, push};
 use pairs::PairTable;
 
-// Whether `w` is a member.
-pub(crate) fn is_member(w: usize, set: &[u16]) -> bool
+/// Tells whether `w` is a member.
+pub fn is_member(w: usize, set: &[u16]) -> bool
     ensures { result ≡ has w set.now }
 {
     for i in 0..set.len() {
@@ -19,8 +20,8 @@ pub(crate) fn is_member(w: usize, set: &[u16]) -> bool
     false
 }
 
-// The first entry, or 0.
-pub(crate) fn smallest(set: &[u16]) -> u16
+/// The first entry, which is the smallest member of a rising list; 0 where there is none.
+pub fn smallest(set: &[u16]) -> u16
     ensures { result ≡ smallest set.now }
 {
     if set.len() == 0 { 0 } else { set[0] }
@@ -41,8 +42,38 @@ pub(crate) fn below(set: &[u16], v: u16) -> Standing
     part
 }
 
-// Whether `w` is a partner of every member.
-pub(crate) fn partner_of_all<T: PairTable>(table: &T, w: usize, set: &[u16]) -> bool
+/// The members of a set below `v`.
+pub fn members_below(set: &Standing, v: u16) -> Standing
+    ensures kept { result ≡ standing_of (below v (members_of set.now)) }
+    ensures members { members_of result ≡ below v (members_of set.now) }
+{
+    below(set.members(), v)
+}
+
+// Whether `x` is below `v` and a partner of it.
+fn is_partner_below<T: PairTable>(table: &T, v: usize, x: usize) -> bool
+    ensures { result ≡ (nat_lt x v && (T.PairTable.meaning table.now).partners v x) }
+{
+    x < v && table.partners(v, x)
+}
+
+/// The members of a set below `v` that are partners of `v`.
+pub fn partners_below<T: PairTable>(table: &T, set: &Standing, v: usize) -> Standing
+    ensures { result ≡ standing_of (partners_below (T.PairTable.meaning table.now) v (members_of set.now)) }
+{
+    let members = set.members();
+    let mut part = empty();
+    for i in 0..members.len() {
+        let x = members[i];
+        if is_partner_below(table, v, x as usize) {
+            push(&mut part, x);
+        }
+    }
+    part
+}
+
+/// Tells whether `w` is a partner of every member.
+pub fn partner_of_all<T: PairTable>(table: &T, w: usize, set: &[u16]) -> bool
     ensures { result ≡ partner_of_all (T.PairTable.meaning table.now) w set.now }
 {
     for i in 0..set.len() {

@@ -1,14 +1,14 @@
 //! A set as it is kept.
 
-ghost use Rattle.std.specs.Prelude.{◌≡◌, ◌<◌, ◌≤◌, [], ◌∷◌, ◌++◌, length, drop};
+ghost use Rattle.std.specs.Prelude.{◌≡◌, ◌<◌, ◌≤◌, [], ◌∷◌, ◌++◌, length, take, drop};
 ghost use Rattle.completion.specs.Answers.{copied};
 ghost use Rattle.completion.specs.Standings.{members_of, standing_of};
 
 use refusal::{Layer, Reason, Refusal};
 
-// The members at the front, zeros after them.
+/// A set of places, or none: at most 256 members at the front, zeros after them.
 #[derive(Clone, Copy)]
-pub(crate) struct Standing {
+pub struct Standing {
     pub(crate) members: [u16; 256],
     pub(crate) count: usize,
 }
@@ -64,4 +64,52 @@ pub(crate) fn copy_out(s: &Standing, out: &mut [u16]) -> Result<usize, Refusal>
     }
     write_front(s, out);
     Ok(s.count)
+}
+
+impl Standing {
+    /// A set without members.
+    pub fn empty() -> Standing
+        ensures { result ≡ standing_of [] }
+    {
+        empty()
+    }
+
+    /// The set that a list has, or its first 256 entries where it is longer.
+    pub fn of(list: &[u16]) -> Standing
+        ensures { result ≡ standing_of (take 256 list.now) }
+    {
+        let mut set = empty();
+        for i in 0..list.len().min(256) {
+            push(&mut set, list[i]);
+        }
+        set
+    }
+
+    /// The members.
+    pub fn members(&self) -> &[u16]
+        ensures members { result.now ≡ members_of self.now }
+        ensures few { length result.now ≤ 256 }
+    {
+        &self.members[0..self.count.min(256)]
+    }
+
+    /// The set with one member more at its end; where it has 256, there is no room for another, and it is the set itself.
+    pub fn with(&self, x: u16) -> Standing
+        ensures { result ≡ standing_of (take 256 (members_of self.now ++ (x ∷ []))) }
+    {
+        let mut set = Standing::of(self.members());
+        if set.count < 256 {
+            push(&mut set, x);
+        }
+        set
+    }
+
+    /// Copies the members to the front of `out` and tells how many there are; what lies beyond stays. Refuses an `out` that
+    /// is too short (`ShortSpace`), and then leaves it as it was.
+    pub fn copy_out(&self, out: &mut [u16]) -> Result<usize, Refusal>
+        ensures answer { result ≡ (copied (members_of self.now) out.old).answer }
+        ensures space { out.new ≡ (copied (members_of self.now) out.old).space }
+    {
+        copy_out(&Standing::of(self.members()), out)
+    }
 }

@@ -1,6 +1,6 @@
 -- The reference model of a walk: the list of all maximal cliques by rising path, and a pin, which is at one of them or, as
 -- the empty list, before them all.
-use Rattle.std.specs.Prelude.{◌≡◌, ℕ, Bool, false, cond, not, ◌||◌, List, [], ◌∷◌, length, Some, None, Ok, Err, vec_items, Option, Result}
+use Rattle.std.specs.Prelude.{ℕ, Bool, false, cond, not, ◌||◌, List, [], ◌∷◌, length, Some, None, Ok, Err, Option, Result}
 use Rattle.std.specs.Option.{option_or}
 use Rattle.refusal.specs.Refusals.{refused}
 use Rattle.refusal.specs.declared.Layer.TheVariants.{Walk}

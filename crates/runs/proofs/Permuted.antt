@@ -1,5 +1,5 @@
 -- An order of all places is never refused as a selection.
-use Rattle.std.proofs.Common.{◌≡◌, ℕ, zero, suc, ◌+◌, ◌<◌, ◌≤◌, Bool, true, false, cond, ◌||◌, eqb, ltb, leb, List, [], ◌∷◌, ◌++◌, length, get_or, take, drop, None, Option, sym, refl, ap, ◌∙◌, subst, inl, inr, arith}
+use Rattle.std.proofs.Common.{◌≡◌, ℕ, zero, suc, ◌+◌, ◌<◌, ◌≤◌, Bool, true, false, ◌||◌, eqb, ltb, List, [], ◌∷◌, length, get_or, take, drop, None, Option, sym, refl, ap, ◌∙◌, subst, arith}
 use Rattle.std.specs.Option.{option_or}
 use Rattle.std.proofs.lemmas.List.{take-append-drop, drop_more}
 use Rattle.std.proofs.lemmas.Bool.{eqb-true, lt-leb}
@@ -7,7 +7,7 @@ use Rattle.refusal.specs.declared.Refusal.{Refusal}
 use Rattle.refusal.specs.declared.Reason.TheVariants.{BadList, Repeated}
 use Rattle.pairs.specs.Checks.{first_fault, refuse_if, stands}
 use Rattle.pairs.specs.Selections.{entry_fault, selection_fault}
-use Rattle.order.specs.Orders.{bit, how_many, times, Permutation}
+use Rattle.order.specs.Orders.{bit, times, Permutation}
 use Rattle.order.proofs.Counts.{many_append, in_here, in_there, places_in}
 
 none_all : (fault : ℕ → Option Refusal) (k : ℕ) → ((i : ℕ) → i < k → fault i ≡ None) → first_fault fault k ≡ None

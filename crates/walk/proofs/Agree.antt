@@ -1,12 +1,12 @@
 -- The tests for a child agree with its definition: at a maximal clique, the tests before each completion refuse no child.
-use Rattle.std.proofs.Common.{◌≡◌, ℕ, ◌<◌, ◌≤◌, Bool, true, false, cond, not, ◌&&◌, T, ltb, List, [], ◌∷◌, ◌++◌, length, get_or, take, Some, None, Option, sym, refl, ap, ◌∙◌, subst, arith}
+use Rattle.std.proofs.Common.{◌≡◌, ℕ, ◌<◌, Bool, true, false, cond, not, ◌&&◌, T, ltb, List, [], ◌∷◌, ◌++◌, length, get_or, Some, None, Option, sym, refl, ap, ◌∙◌, subst, arith}
 use Rattle.std.proofs.lemmas.List.{length_push, take_all}
 use Rattle.std.proofs.lemmas.Bool.{lt-ltb, cond-true}
 use Rattle.cliques.specs.Graph.{Graph, Lawful}
 use Rattle.cliques.specs.Sets.{In, Sub, below, every, has, insert, partner_of_all, places, same, MaximalClique, FirstFrom}
-use Rattle.cliques.specs.Completion.{completion, partners_below, child, is_child}
-use Rattle.cliques.specs.Shortcuts.{append_pass, barrier, completes_to, adds_none_below, is_child_by_barriers}
-use Rattle.cliques.proofs.Tests.{both_same, of_true}
+use Rattle.cliques.specs.Completion.{partners_below, child, is_child}
+use Rattle.cliques.specs.Shortcuts.{append_pass, barrier, completes_to, adds_none_below}
+use Rattle.cliques.proofs.Tests.{both_same}
 use Rattle.cliques.proofs.Members.{every_at, every_of, places_out}
 use Rattle.cliques.proofs.Rising.{filter_rising, insert_end, rising_room}
 use Rattle.cliques.proofs.Parents.{partners_below_out, partners_below_clique, partners_below_with}

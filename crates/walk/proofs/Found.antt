@@ -1,5 +1,5 @@
 -- What the functions for a child compute, put together.
-use Rattle.std.proofs.Common.{◌≡◌, ℕ, Bool, true, false, cond, ◌&&◌, List, [], ◌∷◌, ◌++◌, take, Some, None, Option, sym, refl, ap, ◌∙◌}
+use Rattle.std.proofs.Common.{◌≡◌, ℕ, Bool, cond, ◌&&◌, List, [], ◌∷◌, ◌++◌, take, Some, None, Option, ap, ◌∙◌}
 use Rattle.cliques.specs.Graph.{Graph}
 use Rattle.cliques.specs.Sets.{below, same}
 use Rattle.cliques.specs.Completion.{partners_below}

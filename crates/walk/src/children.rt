@@ -11,7 +11,9 @@ ghost use Rattle.cliques.specs.Shortcuts.{adds_none_below, append_pass};
 ghost use Rattle.completion.specs.Standings.{members_of};
 ghost use Rattle.walk.specs.Search.{FirstChild, child_at, entered, enters_at, gives_back, none_joins};
 
-use completion::{Barriers, Standing, below, completed, is_member, partner_of_all, partners_below};
+use completion::{
+    Barriers, Standing, completed, is_member, members_below, partner_of_all, partners_below,
+};
 use pairs::PairTable;
 
 // Whether the two lists are equal.
@@ -68,10 +70,10 @@ fn none_meets<T: PairTable>(table: &T, v: usize, part: &[u16]) -> bool
 }
 
 // Whether `child`, the completion of `part` with `v`, adds nothing below `v`.
-fn adds_none_below(child: &Standing, part: &[u16], v: usize) -> bool
+fn adds_none_below(child: &Standing, part: &[u16], v: u16) -> bool
     ensures { result ≡ same (below v (members_of child.now)) part.now }
 {
-    same(below(child, v).members(), part)
+    same(members_below(child, v).members(), part)
 }
 
 // The completion of `part` with `v`, unless it adds something below `v`.
@@ -83,7 +85,8 @@ fn entered<T: PairTable>(table: &T, part: &Standing, v: usize) -> Option<Standin
     if !none_meets(table, v, members) {
         return None;
     }
-    let child = completed(table, part.with(v as u16).members());
+    let v = v as u16;
+    let child = completed(table, part.with(v).members());
     if adds_none_below(&child, members, v) {
         Some(child)
     } else {

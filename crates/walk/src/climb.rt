@@ -38,7 +38,7 @@ fn next_after<T: PairTable>(table: &T, set: &Standing) -> Option<Standing>
         if index == smallest(here.members()) {
             return first_root(table, from);
         }
-        here = completed_below(table, &here, index as usize);
+        here = completed_below(table, &here, index);
         barriers = Barriers::of(table, here.members());
     }
     None

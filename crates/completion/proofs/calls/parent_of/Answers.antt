@@ -17,7 +17,7 @@ members_of-requires g c =
     omega arith
 
 pub copy_out-requires : goal.copy_out-requires
-copy_out-requires g c = pass_few _ (g.T.PairTable.lawful c.args.table.now) _ c.completed.result c.completed.ensures
+copy_out-requires g c = pass_few _ (g.T.PairTable.lawful c.args.table.now) _ c.completed.result c.completed.ensures.pass
 
 pub returns-then-index-smallest : goal.returns-then-index-smallest
 returns-then-index-smallest g c =
@@ -27,7 +27,7 @@ returns-then-index-smallest g c =
 pub returns-in-Ok : goal.returns-in-Ok
 returns-in-Ok g c =
     let q = parent_copied _ (g.T.PairTable.lawful c.args.table.now) c.args.set.now c.requires c.largest_barrier-index.result c.smallest.result c.largest_barrier-index.ensures c.smallest.ensures
-    c.args.out.now _ c.below.result c.completed.result c.if-index-smallest.false c.below.ensures c.members_of.ensures c.completed.ensures in
+    c.args.out.now _ c.below.result c.completed.result c.if-index-smallest.false c.below.ensures c.members_of.ensures c.completed.ensures.pass in
     record {
       answer = ap counted c.in-Ok.ensures.answer ∙ ap (λ (o : Outcome (Option ℕ)). o.answer) q;
       space = c.in-Ok.ensures.space ∙ ap (λ (o : Outcome (Option ℕ)). o.space) q;
@@ -36,7 +36,7 @@ returns-in-Ok g c =
 pub returns-in-Err : goal.returns-in-Err
 returns-in-Err g c =
     let q = parent_copied _ (g.T.PairTable.lawful c.args.table.now) c.args.set.now c.requires c.largest_barrier-index.result c.smallest.result c.largest_barrier-index.ensures c.smallest.ensures
-    c.args.out.now _ c.below.result c.completed.result c.if-index-smallest.false c.below.ensures c.members_of.ensures c.completed.ensures in
+    c.args.out.now _ c.below.result c.completed.result c.if-index-smallest.false c.below.ensures c.members_of.ensures c.completed.ensures.pass in
     record {
       answer = ap counted c.in-Err.ensures.answer ∙ ap (λ (o : Outcome (Option ℕ)). o.answer) q;
       space = c.in-Err.ensures.space ∙ ap (λ (o : Outcome (Option ℕ)). o.space) q;

@@ -1,5 +1,6 @@
 use Rattle.std.proofs.Common.{◌≡◌, ℕ, ap, ◌∙◌, arith}
 use Rattle.cliques.specs.Shortcuts.{append_pass}
+use Rattle.cliques.proofs.Passes.{pass_is}
 use Rattle.completion.specs.Standings.{standing_of}
 use Rattle.completion.proofs.Standings.{again}
 use Rattle.completion.proofs.Passing.{pass_count, pass_yes, pass_no}
@@ -32,7 +33,8 @@ pub returns : goal.returns
 returns g c =
     let m = g.T.PairTable.meaning c.args.table.now in
     let q : c.loop-k.k ≡ m.size = omega (arith, c.size-n.ensures) in
-    c.loop-k.invariant ∙ ap (λ (k : ℕ). standing_of (append_pass m k c.args.set.now)) q
+    let p : c.loop-k.got ≡ standing_of (append_pass m m.size c.args.set.now) = c.loop-k.invariant ∙ ap (λ (k : ℕ). standing_of (append_pass m k c.args.set.now)) q in
+    record { pass = p; clique = λ f. p ∙ ap standing_of (pass_is m (g.T.PairTable.lawful c.args.table.now) c.args.set.now f) }
 
 pub overflow_cast-k : goal.overflow_cast-k
 overflow_cast-k g c =

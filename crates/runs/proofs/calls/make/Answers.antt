@@ -37,8 +37,8 @@ returns g c =
             (step_obeys m law S w.step.result D X p (w.step.ensures.next p));
       }
       | in-Read w ↦
-          let was : w.deref-mut.result.now ≡ X = w.deref-mut.ensures.value in
-          let long : length w.read.new.out ≡ vec_len x.space = w.read.auto.out ∙ w.deref-mut.ensures.len in
+          let was : w.deref_mut.result.now ≡ X = w.deref_mut.ensures.value in
+          let long : length w.read.new.out ≡ vec_len x.space = w.read.auto.out ∙ w.deref_mut.ensures.len in
           let q = refill x.space w.read.new.out long in
           record {
             table = ap table_of w.walk-is;

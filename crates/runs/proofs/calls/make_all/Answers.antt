@@ -1,4 +1,4 @@
-use Rattle.std.proofs.Common.{◌≡◌, ℕ, ◌<◌, ◌≤◌, List, map, length, get_or, sym, refl, ◌∙◌, subst, arith}
+use Rattle.std.proofs.Common.{◌<◌, ◌≤◌, map, length, get_or, sym, refl, ◌∙◌, subst, arith}
 use Rattle.cliques.specs.Paths.{MayStand}
 use Rattle.completion.specs.Standings.{members_of}
 use Rattle.model.specs.declared.exchange.Exchange.{Exchange}

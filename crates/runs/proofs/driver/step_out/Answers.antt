@@ -1,4 +1,4 @@
-use Rattle.std.proofs.Common.{◌≡◌, ℕ, ◌<◌, Bool, List, length, Ok, Err, sym, refl, ap, ◌∙◌, subst, arith}
+use Rattle.std.proofs.Common.{◌≡◌, ℕ, ◌<◌, Bool, length, Ok, Err, sym, refl, ap, ◌∙◌, subst, arith}
 use Rattle.cliques.specs.Paths.{MayStand}
 use Rattle.completion.specs.Standings.{members_of}
 use Rattle.model.specs.Steps.{StepsTo}
@@ -76,6 +76,6 @@ returns g c =
       gives = λ p L l.
           let b = h.1 p in
           let a = giving_full m law L l (remainder L S) here room is i b.0 (b.1 L l) c.step-2.result D (o b.0) q in
-          subst (λ (n : ℕ). PutInto room (remainder L S) is n c.is-err.result) e
-          (subst (λ (z : Bool). PutInto room (remainder L S) is i z) (sym c.is-err.ensures.value) a);
+          subst (λ (n : ℕ). PutInto room (remainder L S) is n c.is_err.result) e
+          (subst (λ (z : Bool). PutInto room (remainder L S) is i z) (sym c.is_err.ensures.value) a);
     }

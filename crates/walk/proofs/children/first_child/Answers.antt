@@ -1,11 +1,11 @@
-use Rattle.std.proofs.Common.{◌≡◌, ℕ, ◌<◌, ◌≤◌, None, sym, subst, inl, inr, arith}
+use Rattle.std.proofs.Common.{◌≡◌, ◌<◌, None, sym, subst, inl, inr, arith}
 use Rattle.cliques.proofs.Tests.{lt_or}
 use Rattle.completion.specs.Standings.{members_of}
 use Rattle.walk.specs.Search.{child_at}
 use Rattle.walk.proofs.children.first_child.Goals as goal
 
-pub child-at-requires : goal.child-at-requires
-child-at-requires g c =
+pub child_at-requires : goal.child_at-requires
+child_at-requires g c =
     let few = (g.T.PairTable.lawful c.args.table.now).few in
     omega (arith, c.size-v-end.ensures)
 

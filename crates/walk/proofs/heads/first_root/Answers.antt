@@ -1,5 +1,3 @@
-use Rattle.std.proofs.Common.{◌<◌, [], ◌∷◌, arith}
-use Rattle.cliques.specs.Shortcuts.{append_pass}
 use Rattle.completion.proofs.Standings.{again}
 use Rattle.walk.proofs.Roots.{root_least, root_none}
 use Rattle.walk.proofs.heads.first_root.Goals as goal

@@ -1,5 +1,5 @@
 -- How reading by the rules goes from record to record.
-use Rattle.std.proofs.Common.{◌≡◌, ℕ, zero, suc, ◌+◌, ◌-◌, ◌<◌, ◌≤◌, Bool, true, false, cond, not, ◌&&◌, eqb, List, [], ◌∷◌, ◌++◌, length, drop, is_some, Some, None, Ok, Err, Option, Result, sym, refl, ap, ◌∙◌, subst, append_assoc, add-zero, arith}
+use Rattle.std.proofs.Common.{◌≡◌, ℕ, zero, suc, ◌+◌, ◌-◌, ◌<◌, ◌≤◌, Bool, true, false, cond, not, ◌&&◌, eqb, List, [], ◌∷◌, ◌++◌, length, drop, is_some, Some, None, Ok, Err, Option, Result, sym, refl, ap, ◌∙◌, subst, append_assoc, add-zero, arith, rules}
 use Rattle.std.proofs.lemmas.List.{get_or-drop, length-append, length-drop}
 use Rattle.std.proofs.lemmas.Bool.{and_right, eqb-false, ltb-false, lt-ltb, ne_eqb, not-false, or_parts}
 use Rattle.std.specs.List.{AllByRecursion as All}
@@ -9,14 +9,13 @@ use Rattle.refusal.specs.declared.Refusal.{Refusal}
 use Rattle.format.specs.declared.records.Record.{Record}
 use Rattle.format.specs.declared.records.Record.TheVariants.{Card as CardRecord, Rule as RuleRecord, Pair as PairRecord, Withdrawn as WithdrawnRecord, End as EndRecord}
 use Rattle.format.specs.declared.records.Section.{Section}
-use Rattle.format.specs.declared.records.Section.TheVariants.{Cards, Ruled, Paired, Withdrawing, Done}
 use Rattle.format.specs.Records.{bytes_of, cut_short, kind_of, length_of_kind, record_of, unknown_kind}
 use Rattle.format.specs.Sections.{is_done, next}
 use Rattle.format.specs.Grammar.{encoded}
 use Rattle.format.specs.Rules.{Draft, taken, record_rules, byte_rules, first_broken, refused_at, run}
 use Rattle.format.specs.Theorems.{after, Kept, Bytes}
 use Rattle.format.proofs.Lexed.{Fit, begins, spelt}
-use Rattle.format.proofs.Logic.{clash, keep, kept}
+use Rattle.format.proofs.Logic.{keep, kept}
 
 -- the length of the record that begins the bytes
 abbrev pub size_in : List ℕ → ℕ
@@ -70,15 +69,7 @@ takes d xs l e =
 
 -- after the end nothing may follow
 going : (s : Section) (r : Record) → is_some (next s r) ≡ true → is_done s ≡ false
-going Cards r a = refl
-going Ruled r a = refl
-going Paired r a = refl
-going Withdrawing r a = refl
-going Done (CardRecord c) a = clash (sym a)
-going Done (RuleRecord c) a = clash (sym a)
-going Done (PairRecord c b) a = clash (sym a)
-going Done (WithdrawnRecord c) a = clash (sym a)
-going Done EndRecord a = clash (sym a)
+going s r a = search rules
 
 -- records that keep every rule are read, one after the other
 pub reads_on : (rs : List Record) (at : ℕ) (d : Draft) → All Fit rs → Kept d rs → is_done (after d rs).section ≡ true → run 0 (encoded rs) at d ≡ Ok (after d rs)

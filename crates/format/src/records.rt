@@ -7,7 +7,7 @@ use crate::card::{Card, Rule};
 use refusal::Reason;
 
 /// What one record of a book says.
-#[derive(Clone, Copy)]
+#[derive(Clone, Copy, PartialEq, Eq, Debug)]
 pub enum Record {
     /// A roll's card.
     Card(Card),
@@ -22,7 +22,7 @@ pub enum Record {
 }
 
 /// How far a book has been read: the section that the last record stands in.
-#[derive(Clone, Copy)]
+#[derive(Clone, Copy, PartialEq, Eq, Debug)]
 pub enum Section {
     Cards,
     Ruled,
@@ -31,47 +31,38 @@ pub enum Section {
     Done,
 }
 
-fn be16(high: u8, low: u8) -> u16
-    ensures { result ≡ high * 256 + low }
-{
-    u16::from_be_bytes([high, low])
-}
-
-fn be32(a: u8, b: u8, c: u8, d: u8) -> u32
-    ensures { result ≡ a * 16777216 + b * 65536 + c * 256 + d }
-{
-    u32::from_be_bytes([a, b, c, d])
-}
-
 /// The record that begins `part`, and how many bytes follow it.
 ///
 /// Refused are a first byte that is no kind, and bytes that end in or before the record.
 pub fn decode(part: &[u8]) -> Result<(Record, usize), Reason>
     ensures { result ≡ record_in part.now }
 {
-    match part {
-        [0x01, s1, s0, family, d3, d2, d1, d0, c1, c0, rest @ ..] => {
+    match *part {
+        [0x01, s1, s0, family, d3, d2, d1, d0, c1, c0, ref rest @ ..] => {
             let card = Card {
-                stamp: be16(*s1, *s0),
-                family: *family,
-                diameter: be32(*d3, *d2, *d1, *d0),
-                crown: be16(*c1, *c0).cast_signed(),
+                stamp: u16::from_be_bytes([s1, s0]),
+                family,
+                diameter: u32::from_be_bytes([d3, d2, d1, d0]),
+                crown: i16::from_be_bytes([c1, c0]),
             };
             Ok((Record::Card(card), rest.len()))
         }
-        [0x02, d1, d0, c1, c0, rest @ ..] => {
+        [0x02, d1, d0, c1, c0, ref rest @ ..] => {
             let rule = Rule {
-                diameter: be16(*d1, *d0),
-                crown: be16(*c1, *c0),
+                diameter: u16::from_be_bytes([d1, d0]),
+                crown: u16::from_be_bytes([c1, c0]),
             };
             Ok((Record::Rule(rule), rest.len()))
         }
-        [0x03, a1, a0, b1, b0, rest @ ..] => Ok((
-            Record::Pair(be16(*a1, *a0), be16(*b1, *b0)),
+        [0x03, a1, a0, b1, b0, ref rest @ ..] => Ok((
+            Record::Pair(u16::from_be_bytes([a1, a0]), u16::from_be_bytes([b1, b0])),
             rest.len(),
         )),
-        [0x04, s1, s0, rest @ ..] => Ok((Record::Withdrawn(be16(*s1, *s0)), rest.len())),
-        [0x05, rest @ ..] => Ok((Record::End, rest.len())),
+        [0x04, s1, s0, ref rest @ ..] => Ok((
+            Record::Withdrawn(u16::from_be_bytes([s1, s0])),
+            rest.len(),
+        )),
+        [0x05, ref rest @ ..] => Ok((Record::End, rest.len())),
         [] | [0x01 | 0x02 | 0x03 | 0x04, ..] => Err(Reason::Truncated),
         _ => Err(Reason::UnknownKind),
     }
@@ -81,7 +72,7 @@ pub fn decode(part: &[u8]) -> Result<(Record, usize), Reason>
 pub fn stamp_in_range(stamp: u16) -> bool
     ensures { result ≡ stamp_ok stamp }
 {
-    1 <= stamp && stamp <= 9999
+    (1..=9999).contains(&stamp)
 }
 
 impl Card {
@@ -92,8 +83,7 @@ impl Card {
         stamp_in_range(self.stamp)
             && 1 <= self.family
             && self.diameter <= 200000
-            && -500 <= self.crown
-            && self.crown <= 500
+            && (-500..=500).contains(&self.crown)
             && (self.diameter != 0 || self.crown == 0)
     }
 }

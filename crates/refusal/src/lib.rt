@@ -10,43 +10,43 @@ use std::fmt;
 #[derive(Clone, Copy, PartialEq, Eq, Debug)]
 pub enum Reason {
     /// The bytes end in or before a record.
-    Truncated,
+    Truncated = 1,
     /// A record's kind byte is none of the format's.
-    UnknownKind,
+    UnknownKind = 2,
     /// A record that may not stand in this section, a byte after the end, or a pair change under a rule.
-    OutOfSection,
+    OutOfSection = 3,
     /// A field outside its range.
-    OutOfRange,
+    OutOfRange = 4,
     /// The stamp of an earlier card.
-    DuplicateStamp,
+    DuplicateStamp = 5,
     /// A stamp that is on no card.
-    UnknownStamp,
+    UnknownStamp = 6,
     /// A roll paired with itself.
-    SelfPair,
+    SelfPair = 7,
     /// Said already.
-    Repeated,
+    Repeated = 8,
     /// More cards or lists than a table has places.
-    TooMany,
+    TooMany = 9,
     /// A list that is empty, not rising, or names a place beyond the table.
-    BadList,
+    BadList = 10,
     /// Two members that are no partners.
-    NotPartners,
+    NotPartners = 11,
     /// A set that can be enlarged.
-    NotMaximal,
+    NotMaximal = 12,
     /// No further set.
-    Exhausted,
+    Exhausted = 13,
     /// No set stands to be read.
-    NothingStanding,
+    NothingStanding = 14,
     /// The caller's space is too short.
-    ShortSpace,
+    ShortSpace = 15,
     /// A sorted slice without room.
-    Full,
+    Full = 16,
     /// More bytes than a book may have.
-    TooLong,
+    TooLong = 17,
     /// Nothing there to take, strike or return.
-    Missing,
+    Missing = 18,
     /// A partner list that names a roll which does not name it back.
-    OneSided,
+    OneSided = 19,
 }
 
 /// The part of the library that refuses.
@@ -73,42 +73,22 @@ impl Reason {
     pub fn number(self) -> u8
         ensures { result ≡ number_of self }
     {
-        match self {
-            Reason::Truncated => 1,
-            Reason::UnknownKind => 2,
-            Reason::OutOfSection => 3,
-            Reason::OutOfRange => 4,
-            Reason::DuplicateStamp => 5,
-            Reason::UnknownStamp => 6,
-            Reason::SelfPair => 7,
-            Reason::Repeated => 8,
-            Reason::TooMany => 9,
-            Reason::BadList => 10,
-            Reason::NotPartners => 11,
-            Reason::NotMaximal => 12,
-            Reason::Exhausted => 13,
-            Reason::NothingStanding => 14,
-            Reason::ShortSpace => 15,
-            Reason::Full => 16,
-            Reason::TooLong => 17,
-            Reason::Missing => 18,
-            Reason::OneSided => 19,
-        }
+        self as u8
     }
 
     /// Whether a refusal for this reason can point at a place; the others tell 0.
     pub fn points(self) -> bool
         ensures { result ≡ (fixed self).points }
     {
-        match self {
+        !matches!(
+            self,
             Reason::NotMaximal
-            | Reason::Exhausted
-            | Reason::NothingStanding
-            | Reason::Full
-            | Reason::TooLong
-            | Reason::Missing => false,
-            _ => true,
-        }
+                | Reason::Exhausted
+                | Reason::NothingStanding
+                | Reason::Full
+                | Reason::TooLong
+                | Reason::Missing
+        )
     }
 }
 
@@ -139,10 +119,7 @@ impl Refusal {
     pub fn below_number(&self) -> u8
         ensures { result ≡ below_number self.now }
     {
-        match self.below {
-            Some(reason) => reason.number(),
-            None => 0,
-        }
+        self.below.map_or(0, Reason::number)
     }
 }
 
@@ -165,9 +142,13 @@ impl fmt::Display for Refusal {
     ghost output = { λ refusal. Some (line refusal) };
 
     fn fmt<W: fmt::Write>(&self, f: &mut fmt::Formatter<W>) -> fmt::Result {
-        let number = self.reason.number();
-        let layer = self.layer;
-        let place = self.place;
+        let Refusal {
+            reason,
+            layer,
+            place,
+            below: _,
+        } = *self;
+        let number = reason.number();
         write!(f, "refused {number} in {layer} at {place}")
     }
 }

@@ -1,27 +1,18 @@
 -- Where a search from the front stops.
-use Rattle.std.proofs.Common.{◌≡◌, ℕ, suc, ◌+◌, ◌-◌, ◌<◌, ◌≤◌, Bool, true, false, cond, List, [], ◌∷◌, length, get_or, take, drop, sym, refl, ap, ◌∙◌, arith}
-use Rattle.std.specs.List.{insert as opened}
-use Rattle.std.proofs.lemmas.List.{take_rest}
+use Rattle.std.proofs.Common.{◌≡◌, ℕ, suc, ◌+◌, ◌≤◌, Bool, true, false, cond, List, [], ◌∷◌, length, sym, refl, ap, ◌∙◌, arith}
+use Rattle.std.specs.List.{insert as opened, prefix_len}
+use Rattle.std.proofs.lemmas.List.Sums.{prefix_len-le-length}
 use Rattle.sorted.specs.Keyed.{front, up_to_key, inserted}
 
 module _ {X : Type 0} (p : X → Bool) where
+  pub front_is : (xs : List X) → front p xs ≡ prefix_len p xs
+  front_is [] = refl
+  front_is (x ∷ xs) =
+      let h : suc (front p xs) ≡ 1 + prefix_len p xs = omega (arith, front_is xs) in
+      ap (λ k. cond (p x) k 0) h
+
   pub front_le : (xs : List X) → front p xs ≤ length xs
-  front_le [] = omega arith
-  front_le (x ∷ xs) =
-      elim (p x) as (λ b. cond b (suc (front p xs)) 0 ≤ suc (length xs)) [ true ↦ (let h : front p xs ≤ length xs = front_le xs in omega arith) | false ↦ omega arith ]
-
-  front_here : (xs : List X) (x : X) → 0 < length xs → x ≡ get_or xs 0 x → front p xs ≡ cond (p x) (suc (front p (drop 1 xs))) 0
-  front_here [] x lt read = absurd (omega arith)
-  front_here (y ∷ ys) x lt read = ap (λ (z : X). cond (p z) (suc (front p ys)) 0) (sym read)
-
-  -- the search goes on past the first record of what is left, or has passed them all
-  pub front_more : (rest : List X) (x : X) (at all : ℕ) → 0 < length rest → x ≡ get_or rest 0 x → p x ≡ true → all ≡ at + front p rest → all ≡ at + 1 + front p (take (length rest - 1) (drop 1 rest))
-  front_more rest x at all lt read h e =
-      let f : front p rest ≡ suc (front p (drop 1 rest)) = front_here rest x lt read ∙ ap (λ b. cond b (suc (front p (drop 1 rest))) 0) h in
-      rw take_rest (omega arith)
-
-  pub front_end : (rest : List X) (at all : ℕ) → length rest < 1 → all ≡ at + front p rest → at ≡ all
-  front_end rest at all lt e = omega (arith, front_le rest)
+  front_le xs = omega (arith, front_is xs, prefix_len-le-length p xs)
 
 module _ {X K : Type 0} (upto : K → K → Bool) (key : X → K) (x : X) where
   -- the defined place is where the search stops

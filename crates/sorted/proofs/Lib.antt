@@ -1,5 +1,5 @@
 pub mod Shift
 pub mod Front
 pub mod Taken
-pub mod Counted
+pub mod Orders
 pub mod Rising

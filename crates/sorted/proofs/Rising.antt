@@ -1,13 +1,9 @@
 -- Each change keeps the keys rising: this is where the laws of the order are used.
-use Rattle.std.proofs.Common.{◌≡◌, ℕ, Bool, true, false, cond, ◌&&◌, List, [], ◌∷◌, drop, is_some, Some, None, Option, refl, inl, inr, arith}
+use Rattle.std.proofs.Common.{◌≡◌, ℕ, Bool, true, false, cond, ◌&&◌, List, [], ◌∷◌, is_some, Some, None, Option, refl, inl, inr, arith}
 use Rattle.std.proofs.lemmas.Bool.{both_ways, cases_Bool}
 use Rattle.sorted.specs.Keyed.{inserted, without, first_of, of_key, Rising, Before}
 
 module _ {X K : Type 0} (upto : K → K → Bool) (key : X → K) where
-  pub rising_drop : (xs : List X) → Rising upto key xs → Rising upto key (drop 1 xs)
-  rising_drop [] h = tt
-  rising_drop (y ∷ ys) h = h.1
-
   before_without : (p : X → Bool) (k : K) (xs : List X) → Before upto key k xs → Before upto key k (without p xs)
   before_without p k [] h = tt
   before_without p k (y ∷ ys) h =

@@ -1,57 +1,44 @@
 -- Finding and taking, by the place that a search gives.
-use Rattle.std.proofs.Common.{◌≡◌, ℕ, suc, ◌<◌, ◌≤◌, Bool, true, false, cond, not, ◌&&◌, List, [], ◌∷◌, length, get_or, take, drop, Some, None, sym, refl, ap, ◌∙◌, subst, arith}
-use Rattle.std.specs.List.{remove}
-use Rattle.std.proofs.lemmas.List.{take_all, length-take-le, drop_more, drop_all, get_or-take, append-nil}
-use Rattle.sorted.specs.Keyed.{front, first_of, without, leading}
-
-module _ {X : Type 0} where
-  -- the record at a place, and none past the end
-  pub leading_at : (xs : List X) (i : ℕ) (x : X) → i < length xs → x ≡ get_or xs i x → Some x ≡ leading (drop i xs)
-  leading_at xs i x lt read = ap (λ (z : X). Some z) read ∙ ap leading (sym (drop_more xs i x lt))
-
-  pub leading_held : (xs : List X) (n i : ℕ) (x : X) → n ≤ length xs → i < n → x ≡ get_or xs i x → Some x ≡ leading (drop i (take n xs))
-  leading_held xs n i x le lt read =
-      let l : length (take n xs) ≡ n = length-take-le n xs le in
-      leading_at (take n xs) i x (omega arith) (read ∙ sym (get_or-take n xs i x lt))
-
-  pub leading_past : (xs : List X) (i : ℕ) → length xs ≤ i → None ≡ leading (drop i xs)
-  leading_past xs i le = ap leading (sym (drop_all i xs le))
-
-  removed_past : (xs : List X) (i : ℕ) → length xs ≤ i → xs ≡ remove xs i
-  removed_past xs i le = sym (rw (take_all i xs le, drop_all (suc i) xs (omega arith)) (append-nil xs))
+use Rattle.std.proofs.Common.{◌≡◌, ℕ, suc, ◌+◌, ◌<◌, Bool, true, false, cond, not, ltb, List, [], ◌∷◌, length, Some, None, Option, sym, refl, ap, ◌∙◌, arith}
+use Rattle.std.specs.List.{find, position, position_or_len, remove, slice_get}
+use Rattle.std.proofs.lemmas.Bool.{ltb-true, ltb-false}
+use Rattle.std.proofs.lemmas.List.{take_all, drop_all, append-nil}
+use Rattle.std.proofs.lemmas.List.Folds.{find_at}
+use Rattle.std.proofs.lemmas.Option.{slice_get_past}
+use Rattle.sorted.specs.Keyed.{first_of, without}
 
 module _ {X : Type 0} (p : X → Bool) where
-  -- the first record that passes is the one where the search stops
-  first_at : (xs : List X) → leading (drop (front (λ y. not (p y)) xs) xs) ≡ first_of p xs
-  first_at [] = refl
-  first_at (y ∷ xs) = elim (p y) as (λ b. leading (drop (cond (not b) (suc (front (λ y. not (p y)) xs)) 0) (y ∷ xs)) ≡ cond b (Some y) (first_of p xs))
-      [ true ↦ refl | false ↦ first_at xs ]
+  pub first_is : (xs : List X) → find p xs ≡ first_of p xs
+  first_is [] = refl
+  first_is (x ∷ xs) = ap (λ o. cond (p x) (Some x) o) (first_is xs)
 
-  without_at : (xs : List X) → remove xs (front (λ y. not (p y)) xs) ≡ without p xs
-  without_at [] = refl
-  without_at (y ∷ xs) = elim (p y) as (λ b. remove (y ∷ xs) (cond (not b) (suc (front (λ y. not (p y)) xs)) 0) ≡ cond b xs (y ∷ without p xs))
-      [ true ↦ refl | false ↦ ap (λ (l : List X). y ∷ l) (without_at xs) ]
+  without_is : (xs : List X) → remove xs (position_or_len p xs) ≡ without p xs
+  without_is [] = refl
+  without_is (x ∷ xs) =
+      let e : 1 + position_or_len p xs ≡ suc (position_or_len p xs) = omega arith in
+      elim (p x) as (λ b. remove (x ∷ xs) (cond (not b) (1 + position_or_len p xs) 0) ≡ cond b xs (x ∷ without p xs))
+      [ true ↦ refl | false ↦ ap (remove (x ∷ xs)) e ∙ ap (λ (l : List X). x ∷ l) (without_is xs) ]
 
-  -- the same, at a place that the search gave
-  pub placed : (xs : List X) (i : ℕ) → i ≡ front (λ y. not (p y)) xs → (leading (drop i xs) ≡ first_of p xs) × (remove xs i ≡ without p xs)
-  placed xs i e = (ap (λ k. leading (drop k xs)) e ∙ first_at xs, ap (λ k. remove xs k) e ∙ without_at xs)
+  -- the record at the place that a search gives, and the others
+  pub placed : (xs : List X) (i : ℕ) → position p xs ≡ Some i → (i < length xs) × (slice_get xs i ≡ first_of p xs) × (remove xs i ≡ without p xs)
+  placed xs i e = go (ltb (position_or_len p xs) (length xs)) refl e
+    where
+      go : (b : Bool) → ltb (position_or_len p xs) (length xs) ≡ b → cond b (Some (position_or_len p xs)) None ≡ Some i → (i < length xs) × (slice_get xs i ≡ first_of p xs) × (remove xs i ≡ without p xs)
+      go true t e =
+          let q : i ≡ position_or_len p xs = cc in
+          let l = ltb-true _ _ t in
+          (omega arith, ap (slice_get xs) q ∙ sym (find_at p xs) ∙ first_is xs, ap (remove xs) q ∙ without_is xs)
+      go false t e = cc
 
-  -- a search that passed all has found none
-  pub absent : (xs part : List X) (i : ℕ) → part ≡ xs → length xs ≤ i → leading (drop i part) ≡ first_of p part → remove part i ≡ without p part → (None ≡ first_of p xs) × (xs ≡ without p xs)
-  absent xs part i e le found others =
-      let l : length part ≤ i = omega (arith, ap length e) in
-      (leading_past part i l ∙ found ∙ ap (first_of p) e, sym e ∙ removed_past part i l ∙ others ∙ ap (without p) e)
-
-  -- what is found passes
-  pub first_passes : (xs : List X) (x : X) → Some x ≡ first_of p xs → p x ≡ true
-  first_passes [] x = λ e. let z : ◌≡◌ {A = ℕ} 0 1 = cc in absurd (omega arith)
-  first_passes (y ∷ xs) x = let Q : Bool → Type 0 = λ b. p y ≡ b → Some x ≡ cond b (Some y) (first_of p xs) → p x ≡ true in
-      (elim (p y) as Q [ true ↦ (λ py e. let yx : y ≡ x = cc in subst (λ (z : X). p z ≡ true) yx py) | false ↦ (λ py e. first_passes xs x e) ]) refl
-
-pub both_left : (a b : Bool) → (a && b) ≡ true → a ≡ true
-both_left true b e = refl
-both_left false b e = e
-
-pub both_right : (a b : Bool) → (a && b) ≡ true → b ≡ true
-both_right true b e = e
-both_right false b e = let z : ◌≡◌ {A = ℕ} 0 1 = cc in absurd (omega arith)
+  -- a search that gives no place has passed all
+  pub absent : (xs : List X) → position p xs ≡ None → (first_of p xs ≡ None) × (without p xs ≡ xs)
+  absent xs e = go (ltb (position_or_len p xs) (length xs)) refl e
+    where
+      go : (b : Bool) → ltb (position_or_len p xs) (length xs) ≡ b → ◌≡◌ {A = Option ℕ} (cond b (Some (position_or_len p xs)) None) None → (first_of p xs ≡ None) × (without p xs ≡ xs)
+      go true t e = cc
+      go false t e =
+          let i = position_or_len p xs in
+          let l = ltb-false _ _ t in (
+            sym (first_is xs) ∙ find_at p xs ∙ slice_get_past xs i l,
+            sym (without_is xs) ∙ rw (take_all i xs l, drop_all (suc i) xs (omega arith)) (append-nil xs),
+          )

@@ -1,5 +1,7 @@
 -- Lists of records under an order of keys: upto a b says that a comes before b or ties with it.
-use Rattle.std.specs.Prelude.{◌≡◌, ℕ, suc, ◌-◌, Bool, true, false, cond, not, ◌&&◌, List, [], ◌∷◌, Some, None, Ok, Err, Option, Result}
+use Rattle.std.specs.Prelude.{◌≡◌, ℕ, suc, ◌-◌, Bool, true, false, cond, ◌&&◌, List, [], ◌∷◌, Some, None, Ok, Err, Option, Result}
+use Rattle.std.specs.declared.cmp.Ordering.{Ordering}
+use Rattle.std.specs.Ordering.{is_le}
 use Rattle.refusal.specs.declared.Reason.TheVariants.{Repeated, Full}
 use Rattle.refusal.specs.declared.Layer.TheVariants.{Shelf}
 use Rattle.refusal.specs.declared.Refusal.{Refusal}
@@ -25,6 +27,10 @@ abbrev pub without : {X : Type 0} → (X → Bool) → List X → List X
 without p [] = []
 without p (x ∷ xs) = cond (p x) xs (x ∷ without p xs)
 
+-- the order of a comparison: whether a comes before b or ties with it
+abbrev pub at_most : {K : Type 0} → (K → K → Ordering) → K → K → Bool
+at_most cmp a b = is_le (cmp a b)
+
 -- two keys tie when each comes before the other or ties with it
 abbrev pub tie : {K : Type 0} → (K → K → Bool) → K → K → Bool
 tie upto a b = upto a b && upto b a
@@ -32,10 +38,6 @@ tie upto a b = upto a b && upto b a
 -- the test that a record has the key k
 abbrev pub of_key : {X K : Type 0} → (K → K → Bool) → (X → K) → K → X → Bool
 of_key upto key k y = tie upto (key y) k
-
--- the test that a record has another key than k
-abbrev pub other_key : {X K : Type 0} → (K → K → Bool) → (X → K) → K → X → Bool
-other_key upto key k y = not (of_key upto key k y)
 
 -- the test that a record's key comes before k or ties with it
 abbrev pub up_to_key : {X K : Type 0} → (K → K → Bool) → (X → K) → K → X → Bool

@@ -5,5 +5,5 @@ mod keys;
 mod lists;
 mod slice;
 
-pub use keys::{Keyed, Order, TotalOrder};
+pub use keys::{Keyed, TotalOrder};
 pub use slice::SortedSlice;

@@ -1,59 +1,29 @@
 //! The work on the lent slice: its first `count` records are the ones held.
 
-ghost use Rattle.std.specs.Prelude.{◌≡◌, ◌+◌, ◌-◌, ◌<◌, ◌≤◌, true, false, length, take, drop, is_some, IfSome, is_ok, Some, nat_lt};
-ghost use Rattle.sorted.specs.Keyed.{front, leading, first_of, without, up_to_key, of_key, other_key, inserted, left, room_answer};
-ghost use Rattle.std.specs.List.{insert as opened, remove};
+ghost use Rattle.std.specs.Prelude.{◌≡◌, ◌+◌, ◌-◌, ◌<◌, ◌≤◌, true, false, length, take, drop, is_some, IfSome, is_ok, Some, nat_lt, slice_get};
+ghost use Rattle.sorted.specs.Keyed.{at_most, front, leading, first_of, without, up_to_key, of_key, inserted, left, room_answer};
+ghost use Rattle.std.specs.List.{insert as opened, remove, position};
 
-use super::keys::{Keyed, Order, TotalOrder};
+use super::keys::{Keyed, TotalOrder};
 use refusal::{Layer, Reason, Refusal};
-
-// The first `count` records, or all where there are fewer.
-pub(crate) fn held_part<T>(records: &[T], count: usize) -> &[T]
-    ensures { result.now ≡ take count records.now }
-{
-    if count < records.len() {
-        &records[0..count]
-    } else {
-        records
-    }
-}
 
 // The place after the leading records whose keys come before the key or tie with it.
 fn place_after<T: Keyed>(records: &[T], key: T::Key) -> usize
-where
-    T::Key: TotalOrder,
-    ensures { result ≡ front (up_to_key T.Key.Order.upto T.Keyed.keyed key) records.now }
+    ensures { result ≡ front (up_to_key (at_most T.Key.cmp) T.keyed key) records.now }
 {
-    let mut rest = records;
-    let mut at = 0;
-    while let [first, tail @ ..] = rest {
-        if !first.key().at_most(&key) {
-            return at;
-        }
-        rest = tail;
-        at += 1;
-    }
-    at
+    records
+        .iter()
+        .take_while(|record| record.key() <= key)
+        .count()
 }
 
-// The place of the first record that has the key, or the number of records.
-fn place_of<T: Keyed>(records: &[T], key: T::Key) -> usize
+// The place of the first record that has the key.
+fn place_of<T: Keyed>(records: &[T], key: T::Key) -> Option<usize>
 where
     T::Key: TotalOrder,
-    ensures answer { result ≡ front (other_key T.Key.Order.upto T.Keyed.keyed key) records.now }
-    ensures found { leading (drop result records.now) ≡ first_of (of_key T.Key.Order.upto T.Keyed.keyed key) records.now }
-    ensures others { remove records.now result ≡ without (of_key T.Key.Order.upto T.Keyed.keyed key) records.now }
+    ensures { result ≡ position (of_key (at_most T.Key.cmp) T.keyed key) records.now }
 {
-    let mut rest = records;
-    let mut place = 0;
-    while let [first, tail @ ..] = rest {
-        if first.key().same(&key) {
-            return place;
-        }
-        rest = tail;
-        place += 1;
-    }
-    place
+    records.iter().position(|record| record.key().same(&key))
 }
 
 // Puts the item at the place `at` of the first `count` records.
@@ -70,7 +40,7 @@ fn insert_at<T: Copy>(records: &mut [T], count: usize, at: usize, item: T)
 fn remove_at<T: Copy>(records: &mut [T], count: usize, at: usize) -> T
     requires place { at < count }
     requires room { count ≤ length records.old }
-    ensures answer { Some result ≡ leading (drop at (take count records.old)) }
+    ensures answer { Some result ≡ slice_get (take count records.old) at }
     ensures held { take (count - 1) records.new ≡ remove (take count records.old) at }
 {
     let taken = records[at];
@@ -80,16 +50,14 @@ fn remove_at<T: Copy>(records: &mut [T], count: usize, at: usize) -> T
 
 // Inserts the item after the records whose keys come before its key or tie with it; refuses a full slice.
 pub(crate) fn insert_in<T: Keyed>(records: &mut [T], count: usize, item: T) -> Result<(), Refusal>
-where
-    T::Key: TotalOrder,
     ensures answer { result ≡ room_answer (nat_lt count (length records.old)) }
-    ensures held { is_ok result ≡ true → take (count + 1) records.new ≡ inserted T.Key.Order.upto T.Keyed.keyed item (take count records.old) }
+    ensures held { is_ok result ≡ true → take (count + 1) records.new ≡ inserted (at_most T.Key.cmp) T.keyed item (take count records.old) }
     ensures kept { is_ok result ≡ false → records.new ≡ records.old }
 {
     if count >= records.len() {
         return Err(Refusal::new(Reason::Full, Layer::Shelf, 0));
     }
-    let at = place_after(held_part(records, count), item.key());
+    let at = place_after(&records[..count], item.key());
     insert_at(records, count, at, item);
     Ok(())
 }
@@ -98,15 +66,13 @@ where
 pub(crate) fn find_in<T: Keyed>(records: &[T], key: T::Key) -> Option<T>
 where
     T::Key: TotalOrder,
-    ensures answer { result ≡ first_of (of_key T.Key.Order.upto T.Keyed.keyed key) records.now }
-    ensures key { IfSome result (λ y. T.Keyed.keyed y ≡ key) }
+    ensures answer { result ≡ first_of (of_key (at_most T.Key.cmp) T.keyed key) records.now }
+    ensures key { IfSome result (λ y. T.keyed y ≡ key) }
 {
-    let at = place_of(records, key);
-    if at < records.len() {
-        Some(records[at])
-    } else {
-        None
-    }
+    records
+        .iter()
+        .find(|record| record.key().same(&key))
+        .copied()
 }
 
 // Takes out the first record.
@@ -127,13 +93,10 @@ pub(crate) fn remove_in<T: Keyed>(records: &mut [T], count: usize, key: T::Key) 
 where
     T::Key: TotalOrder,
     requires { count ≤ length records.old }
-    ensures answer { result ≡ first_of (of_key T.Key.Order.upto T.Keyed.keyed key) (take count records.old) }
-    ensures held { take (left result count) records.new ≡ without (of_key T.Key.Order.upto T.Keyed.keyed key) (take count records.old) }
+    ensures answer { result ≡ first_of (of_key (at_most T.Key.cmp) T.keyed key) (take count records.old) }
+    ensures held { take (left result count) records.new ≡ without (of_key (at_most T.Key.cmp) T.keyed key) (take count records.old) }
     ensures kept { is_some result ≡ false → records.new ≡ records.old }
 {
-    let at = place_of(held_part(records, count), key);
-    if at >= count {
-        return None;
-    }
+    let at = place_of(&records[..count], key)?;
     Some(remove_at(records, count, at))
 }

@@ -1,5 +1,5 @@
 -- The parent index and the completions of parts by barriers.
-use Rattle.std.proofs.Common.{◌≡◌, ℕ, zero, suc, ◌<◌, ◌≤◌, Bool, true, false, cond, not, ◌&&◌, T, ltb, ◌⊎◌, List, sym, refl, ap, ◌∙◌, subst, inl, inr, arith, ltb→lt, lt→ltb, nltb→le, T_not}
+use Rattle.std.proofs.Common.{◌≡◌, ℕ, zero, suc, ◌<◌, ◌≤◌, Bool, true, false, cond, not, ◌&&◌, T, ltb, ◌⊎◌, List, sym, refl, subst, inl, inr, arith, ltb→lt, lt→ltb, nltb→le, T_not}
 use lib.Dec.{not_T}
 use Rattle.cliques.specs.Graph.{Graph, Lawful}
 use Rattle.cliques.specs.Sets.{
@@ -56,11 +56,7 @@ module _ (g : Graph) (law : Lawful g) (K : List ℕ) (c : MaximalClique g K) whe
 
   -- the members below the first that is no partner are partners
   before_apart : (x u : ℕ) → In u K → u < first_apart x → T (g.partners x u)
-  before_apart x u m h =
-      elim (dec (g.partners x u)) [
-        | inl t ↦ t
-        | inr t ↦ let a = (apart_first x).2 u m (not_T (g.partners x u) t) in absurd (omega arith)
-      ]
+  before_apart x u m h = grind (arith, apart_first)
 
   barrier_is : (x : ℕ) → x < first_apart x → barrier g K x ≡ first_apart x
   barrier_is x h = cond_yes (ltb x (first_apart x)) (first_apart x) (lt→ltb x (first_apart x) h)
@@ -90,11 +86,7 @@ module _ (g : Graph) (law : Lawful g) (K : List ℕ) (c : MaximalClique g K) whe
     pub from : (I ≡ smallest K) ⊎ ((x : ℕ) × (barrier g K x ≡ I))
 
   one_more : (k I : ℕ) → ((x : ℕ) → x < k → barrier g K x ≤ I) → barrier g K k ≤ I → (x : ℕ) → x < suc k → barrier g K x ≤ I
-  one_more k I f here x h =
-      elim (lt_or x k) [
-        | inl l ↦ f x l
-        | inr l ↦ let q : k ≡ x = omega arith in let e = ap (barrier g K) q in omega arith
-      ]
+  one_more k I f here x h = grind arith
 
   larger : (b : Bool) (k I B : ℕ) → ltb I B ≡ b → B ≡ barrier g K k → Largest k I → Largest (suc k) (cond b B I)
   larger true k I B q z l =
@@ -118,20 +110,7 @@ module _ (g : Graph) (law : Lawful g) (K : List ℕ) (c : MaximalClique g K) whe
   I = largest_barrier g g.size K
 
   member : In I K
-  member =
-      elim (largest g.size).from [
-        | inl q ↦ subst (λ z. In z K) (sym q) c.clique.nonempty
-        | inr q ↦ elim (lt_or 0 I) [
-          | inl h ↦
-              let e = q.1 in
-              let p : 0 < barrier g K q.0 = omega arith in
-              subst (λ z. In z K) (sym (barrier_of q.0 p).1 ∙ q.1) (apart_first q.0).0
-          | inr h ↦
-              let l = (largest g.size).low in
-              let z : smallest K ≡ I = omega arith in
-              subst (λ y. In y K) z c.clique.nonempty
-        ]
-      ]
+  member = grind (arith, largest, apart_first)
 
   complete : IsCompletion g (up_to I K) K
   complete = record {

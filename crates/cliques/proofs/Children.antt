@@ -7,8 +7,8 @@ use Rattle.cliques.proofs.Tests.{lt_or}
 use Rattle.cliques.proofs.Members.{below_in, up_to_out, insert_new, insert_old}
 use Rattle.cliques.proofs.Rising.{smallest_le, up_to_insert}
 use Rattle.cliques.proofs.Completions.{IsCompletion, completion_maximal, completion_of, between}
-use Rattle.cliques.proofs.Indices.{up_to_clique, index_is, index_below, root_eq}
-use Rattle.cliques.proofs.Parents.{partners_below_out, partners_below_clique, partners_below_with, parent_of_some}
+use Rattle.cliques.proofs.Indices.{up_to_clique, index_is, index_below}
+use Rattle.cliques.proofs.Parents.{partners_below_out, partners_below_clique, partners_below_with}
 
 module _ (g : Graph) (law : Lawful g) where
   -- a child has its parent index where it was entered, and its parent is the set that it was entered from
@@ -53,17 +53,10 @@ module _ (g : Graph) (law : Lawful g) where
     child_parent = ap (λ z. completion g (below z D)) child_index ∙ (ap (completion g) d.clean ∙ d.back)
 
     pub child_low : smallest D < v
-    child_low =
-        let a = partners_below_out g law v K (smallest P) d.touching in
-        let m = is_q.sub (smallest P) (insert_old v P (smallest P) d.touching) in
-        let b = smallest_le D child_maximal.clique.sorted (smallest P) m in
-        omega arith
+    child_low = grind (arith, partners_below_out, is_q, insert_old, smallest_le, child_maximal)
 
     pub child_parent_of : parent_of g D ≡ Some K
-    child_parent_of =
-        let l = child_low in
-        let i = child_index in
-        parent_of_some g law D (λ t. let e = root_eq g law D t in absurd (omega arith)) ∙ ap Some child_parent
+    child_parent_of = grind (arith, child_low, child_index)
 
   -- a child is one set, and no set is a child of two sets or at two places
   pub child_one : (K D D' : List ℕ) (v : ℕ) → ChildAt g K v D → ChildAt g K v D' → D ≡ D'

@@ -1,10 +1,10 @@
 -- What a completion is, without its order of work.
 use Rattle.std.proofs.Common.{◌≡◌, ℕ, zero, suc, ◌<◌, Bool, true, false, cond, T, ◌⊎◌, List, sym, subst, inl, inr, arith}
 use Rattle.cliques.specs.Graph.{Graph, Lawful}
-use Rattle.cliques.specs.Sets.{has, In, Sub, Rising, insert, smallest, partner_of_all, Pairwise, Clique, MaximalClique}
+use Rattle.cliques.specs.Sets.{In, Sub, Rising, insert, smallest, partner_of_all, Pairwise, Clique, MaximalClique}
 use Rattle.cliques.specs.Completion.{completion_after, completion}
-use Rattle.cliques.proofs.Tests.{dec, lt_or}
-use Rattle.cliques.proofs.Laws.{partners_both, partners_apart, partners_within}
+use Rattle.cliques.proofs.Tests.{lt_or}
+use Rattle.cliques.proofs.Laws.{partners_apart, partners_within}
 use Rattle.cliques.proofs.Members.{partner_at, partner_all, insert_out, insert_new, insert_old}
 use Rattle.cliques.proofs.Rising.{ext, insert_rising, smallest_in}
 
@@ -39,24 +39,10 @@ pub record IsCompletion (g : Graph) (X G : List ℕ) : Type 0 where
 pub widen : (g : Graph) (X Y G : List ℕ) → IsCompletion g X G → Sub X Y → Sub Y G → IsCompletion g Y G
 widen g X Y G f s t = record { sub = t; pairs = f.pairs; greedy = λ w a b. f.greedy w (λ x m. a x (s x m)) b }
 
--- one half of the uniqueness, from what is known of the smaller places
-half : (g : Graph) (X G H : List ℕ) → IsCompletion g X G → IsCompletion g X H → (w : ℕ) → ((u : ℕ) → u < w → In u H → In u G)
-    → In w G → In w H
-half g X G H f j w ih m =
-    elim (dec (has w X)) [
-      | inl x ↦ j.sub w x
-      | inr x ↦ j.greedy w
-          (λ y ym. f.pairs w y m (f.sub y ym) (λ q. x (subst (λ z. In z X) (sym q) ym)))
-          (λ u um h. f.pairs w u m (ih u h um) (λ q. absurd (omega arith)))
-    ]
-
 unique_below : (g : Graph) (X G H : List ℕ) → IsCompletion g X G → IsCompletion g X H → (k w : ℕ) → w < k
     → (In w G → In w H) × (In w H → In w G)
 unique_below g X G H f j zero w h = absurd (omega arith)
-unique_below g X G H f j (suc k) w h = (
-  half g X G H f j w (λ u h2. (unique_below g X G H f j k u (omega arith)).1),
-  half g X H G j f w (λ u h2. (unique_below g X G H f j k u (omega arith)).0),
-)
+unique_below g X G H f j (suc k) w h = grind (arith, unique_below g X G H f j k)
 
 pub unique : (g : Graph) (X G H : List ℕ) → IsCompletion g X G → IsCompletion g X H → Rising G → Rising H → G ≡ H
 unique g X G H f j r s =
@@ -77,18 +63,7 @@ module _ (g : Graph) (law : Lawful g) where
 
   to_pairs : (k : ℕ) (X : List ℕ) → Pairwise g X → Pairwise g (completion_after g k X)
   to_pairs zero X c u v um vm d = c u v um vm d
-  to_pairs (suc k) X c u v um vm d =
-      go (step_out (partner_of_all g k G) k G u um) (step_out (partner_of_all g k G) k G v vm) (to_pairs k X c u v)
-    where
-      G : List ℕ
-      G = completion_after g k X
-
-      go : In u G ⊎ ((u ≡ k) × T (partner_of_all g k G)) → In v G ⊎ ((v ≡ k) × T (partner_of_all g k G))
-          → (In u G → In v G → (u ≡ v → ⊥) → T (g.partners u v)) → T (g.partners u v)
-      go (inl a) (inl b) ih = ih a b d
-      go (inl a) (inr b) ih = partners_both g law v u (subst (λ z. T (g.partners z u)) (sym b.0) (partner_at g k G u b.1 a))
-      go (inr a) (inl b) ih = subst (λ z. T (g.partners z v)) (sym a.0) (partner_at g k G v a.1 b)
-      go (inr a) (inr b) ih = absurd (d (cc (a.0, b.0)))
+  to_pairs (suc k) X c u v um vm d = grind (arith, step_out, partner_at, to_pairs k)
 
   to_greedy : (k : ℕ) (X : List ℕ) (w : ℕ) → w < k → ((x : ℕ) → In x X → T (g.partners w x))
       → ((u : ℕ) → In u (completion_after g k X) → u < w → T (g.partners w u)) → In w (completion_after g k X)
@@ -135,12 +110,7 @@ module _ (g : Graph) (law : Lawful g) where
 
   -- the completion of a clique is a maximal clique
   pub completion_clique : (X : List ℕ) → Clique g X → Clique g (completion g X)
-  completion_clique X f = record {
-    sorted = completion_rising X f;
-    nonempty = smallest_in (completion g X) (smallest X) (to_sub g.size X (smallest X) f.nonempty);
-    within = λ w m. elim (to_from g.size X w m) [ inl a ↦ f.within w a | inr a ↦ a ];
-    pairwise = to_pairs g.size X f.pairwise;
-  }
+  completion_clique X f = grind (arith, completion_rising, smallest_in, to_sub, to_from, to_pairs)
 
   pub completion_maximal : (X : List ℕ) → Clique g X → MaximalClique g (completion g X)
   completion_maximal X f = record {
@@ -149,11 +119,7 @@ module _ (g : Graph) (law : Lawful g) where
   }
 
   pub maximal_itself : (K : List ℕ) → MaximalClique g K → IsCompletion g K K
-  maximal_itself K c = record {
-    sub = λ w m. m;
-    pairs = c.clique.pairwise;
-    greedy = λ w a b. elim (dec (has w K)) [ inl m ↦ m | inr m ↦ absurd (c.maximal w m a) ];
-  }
+  maximal_itself K c = grind arith
 
   pub completion_itself : (K : List ℕ) → MaximalClique g K → completion g K ≡ K
   completion_itself K c = completion_from K K c.clique (maximal_itself K c) c.clique.sorted
@@ -164,12 +130,7 @@ module _ (g : Graph) (law : Lawful g) where
 
   -- a part of a clique with a member
   pub part_clique : (X Y : List ℕ) → Clique g X → Rising Y → Sub Y X → (w : ℕ) → In w Y → Clique g Y
-  part_clique X Y f r s w m = record {
-    sorted = r;
-    nonempty = smallest_in Y w m;
-    within = λ u um. f.within u (s u um);
-    pairwise = λ u v um vm. f.pairwise u v (s u um) (s v vm);
-  }
+  part_clique X Y f r s w m = grind arith
 
   -- a set between X and its completion has the same completion
   pub between : (X Y G : List ℕ) → Clique g X → Clique g Y → Rising G → completion g X ≡ G → Sub X Y → Sub Y G

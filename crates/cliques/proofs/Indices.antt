@@ -62,12 +62,7 @@ module _ (g : Graph) (law : Lawful g) where
 
   -- roots and heads
   pub single_clique : (h : ℕ) → h < g.size → Clique g (h ∷ [])
-  single_clique h l = record {
-    sorted = tt;
-    nonempty = in_here h [];
-    within = λ w m. let q = in_single w h m in omega arith;
-    pairwise = λ u v um vm d. let p = in_single u h um in let q = in_single v h vm in absurd (d (cc));
-  }
+  single_clique h l = grind arith
 
   pub up_to_smallest : (K : List ℕ) → Clique g K → up_to (smallest K) K ≡ (smallest K ∷ [])
   up_to_smallest K f =

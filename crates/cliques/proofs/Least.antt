@@ -1,9 +1,9 @@
 -- The completion is the lexicographically least maximal clique that holds the clique.
-use Rattle.std.proofs.Common.{◌≡◌, ℕ, ◌<◌, ◌⊎◌, List, [], ◌∷◌, sym, ◌∙◌, subst, inl, inr, arith}
+use Rattle.std.proofs.Common.{◌≡◌, ℕ, ◌<◌, ◌⊎◌, List, [], ◌∷◌, sym, subst, inl, inr, arith}
 use Rattle.cliques.specs.Graph.{Graph, Lawful}
-use Rattle.cliques.specs.Sets.{has, In, Sub, Rising, Precedes, Clique, MaximalClique}
+use Rattle.cliques.specs.Sets.{In, Sub, Rising, Precedes, Clique, MaximalClique}
 use Rattle.cliques.specs.Completion.{completion}
-use Rattle.cliques.proofs.Tests.{dec, lt_or}
+use Rattle.cliques.proofs.Tests.{lt_or}
 use Rattle.cliques.proofs.Members.{in_cons, in_here, in_there}
 use Rattle.cliques.proofs.Rising.{rising_head, rising_tail, ext, smallest_le}
 use Rattle.cliques.proofs.Completions.{IsCompletion, completion_is, completion_maximal}
@@ -26,10 +26,7 @@ compared (x ∷ A) (y ∷ B) =
   where
     longer : (x y : ℕ) (A B : List ℕ) → x ≡ y → Sub A B → Sub (x ∷ A) (y ∷ B)
     longer x y A B q s w m =
-        elim (in_cons w x A m) [
-          | inl a ↦ subst (λ z. In z (y ∷ B)) (sym (a ∙ q)) (in_here y B)
-          | inr a ↦ in_there w y B (s w a)
-        ]
+        grind (arith, in_cons, in_here, in_there)
 
 -- the first difference is a member of the list that comes first, and below it that list holds what the other holds
 abbrev Difference : List ℕ → List ℕ → Type 0
@@ -51,21 +48,13 @@ difference (x ∷ A) (y ∷ B) r s (inr h) =
       d.0,
       in_there d.0 x A d.1,
       (λ m. elim (in_cons d.0 y B m) [ inl a ↦ omega arith | inr a ↦ d.2 a ]),
-      (λ u m k. elim (in_cons u y B m) [
-        | inl a ↦ subst (λ z. In z (x ∷ A)) (q ∙ sym a) (in_here x A)
-        | inr a ↦ in_there u x A (d.3 u a k)
-      ]),
+      (λ u m k. grind (arith, in_cons, in_here, in_there)),
     )
 
 module _ (g : Graph) (law : Lawful g) where
   -- a maximal clique that lies in another is the other
   pub maximal_sub : (K D : List ℕ) → MaximalClique g K → MaximalClique g D → Sub K D → K ≡ D
-  maximal_sub K D c d s =
-      ext K D c.clique.sorted d.clique.sorted s
-      (λ w m. elim (dec (has w K)) [
-        | inl a ↦ a
-        | inr a ↦ absurd (c.maximal w a (λ u um. d.clique.pairwise w u m (s u um) (λ q. a (subst (λ z. In z K) (sym q) um))))
-      ])
+  maximal_sub K D c d s = grind (arith, ext)
 
   pub completion_least : (X K : List ℕ) → Clique g X → MaximalClique g K → Sub X K
       → (completion g X ≡ K) ⊎ Precedes (completion g X) K

@@ -1,5 +1,5 @@
 -- The maximal cliques by rising path make one list, and what comes next after a set is the next of the list.
-use Rattle.std.proofs.Common.{◌≡◌, ℕ, zero, suc, ◌<◌, Bool, true, false, not, T, ◌⊎◌, List, [], ◌∷◌, ◌++◌, map, Some, None, Option, sym, refl, ap, ◌∙◌, subst, inl, inr, arith, T_not}
+use Rattle.std.proofs.Common.{◌≡◌, ℕ, zero, suc, ◌<◌, Bool, true, false, not, T, ◌⊎◌, List, [], ◌∷◌, ◌++◌, map, Option, sym, refl, ◌∙◌, subst, inl, inr, arith, T_not}
 use Rattle.cliques.specs.Graph.{Graph, Lawful}
 use Rattle.cliques.specs.Sets.{has, In, below, Rising, MaximalClique, is_maximal_clique}
 use Rattle.cliques.specs.Paths.{path, Before, is_before, NextAfter}
@@ -14,13 +14,11 @@ use Rattle.cliques.proofs.Paths.{path_some, path_one}
 -- sets among a list of sets
 pub among_append : (A B : List (List ℕ)) (K : List ℕ) → Among K (A ++ B) → Among K A ⊎ Among K B
 among_append [] B K m = inr m
-among_append (D ∷ A) B K (inl q) = inl (inl q)
-among_append (D ∷ A) B K (inr q) = elim (among_append A B K q) [ inl a ↦ inl (inr a) | inr a ↦ inr a ]
+among_append (D ∷ A) B K q = grind (arith, among_append A)
 
 pub among_l : (A B : List (List ℕ)) (K : List ℕ) → Among K A → Among K (A ++ B)
 among_l [] B K m = absurd m
-among_l (D ∷ A) B K (inl q) = inl q
-among_l (D ∷ A) B K (inr q) = inr (among_l A B K q)
+among_l (D ∷ A) B K q = grind (arith, among_l A)
 
 pub among_r : (A B : List (List ℕ)) (K : List ℕ) → Among K B → Among K (A ++ B)
 among_r [] B K m = m
@@ -28,8 +26,7 @@ among_r (D ∷ A) B K m = inr (among_r A B K m)
 
 among_map : (f : List ℕ → List ℕ) (A : List (List ℕ)) (K : List ℕ) → Among K A → Among (f K) (map f A)
 among_map f [] K m = absurd m
-among_map f (D ∷ A) K (inl q) = inl (ap f q)
-among_map f (D ∷ A) K (inr q) = inr (among_map f A K q)
+among_map f (D ∷ A) K q = grind (arith, among_map f A)
 
 -- every rising list of places below k is among the subsets
 snoc_below : (k : ℕ) (K : List ℕ) → Rising K → ((w : ℕ) → In w K → w < suc k) → In k K → below k K ++ (k ∷ []) ≡ K
@@ -62,29 +59,13 @@ module _ (g : Graph) (law : Lawful g) where
   abbrev put_by : Bool → Bool → List ℕ → List ℕ → List (List ℕ) → List (List ℕ) → List (List ℕ)
   put_by a b K D L S = elim a [ true ↦ K ∷ D ∷ L | false ↦ elim b [ true ↦ D ∷ S | false ↦ D ∷ L ] ]
 
-  by_out : (a b : Bool) (K D : List ℕ) (L S : List (List ℕ)) (X : List ℕ) → (Among X S → (X ≡ K) ⊎ Among X L)
-      → Among X (put_by a b K D L S) → (X ≡ K) ⊎ Among X (D ∷ L)
-  by_out true b K D L S X f m = m
-  by_out false true K D L S X f (inl m) = inr (inl m)
-  by_out false true K D L S X f (inr m) = elim (f m) [ inl q ↦ inl q | inr q ↦ inr (inr q) ]
-  by_out false false K D L S X f m = inr m
-
   put_out : (K : List ℕ) (L : List (List ℕ)) (X : List ℕ) → Among X (put_by_path g K L) → (X ≡ K) ⊎ Among X L
   put_out K [] X m = m
-  put_out K (D ∷ L) X m =
-      by_out (is_before (path g K) (path g D)) (is_before (path g D) (path g K)) K D L (put_by_path g K L) X (put_out K L X) m
-
-  by_old : (a b : Bool) (K D : List ℕ) (L S : List (List ℕ)) (X : List ℕ) → (Among X L → Among X S) → Among X (D ∷ L)
-      → Among X (put_by a b K D L S)
-  by_old true b K D L S X f m = inr m
-  by_old false true K D L S X f (inl m) = inl m
-  by_old false true K D L S X f (inr m) = inr (f m)
-  by_old false false K D L S X f m = m
+  put_out K (D ∷ L) X m = grind (arith, put_out K L)
 
   put_old : (K : List ℕ) (L : List (List ℕ)) (X : List ℕ) → Among X L → Among X (put_by_path g K L)
   put_old K [] X m = absurd m
-  put_old K (D ∷ L) X m =
-      by_old (is_before (path g K) (path g D)) (is_before (path g D) (path g K)) K D L (put_by_path g K L) X (put_old K L X) m
+  put_old K (D ∷ L) X m = grind (arith, put_old K L)
 
   by_new : (a b : Bool) (K D : List ℕ) (L S : List (List ℕ)) → Among K S → (T (not a) → T (not b) → K ≡ D)
       → Among K (put_by a b K D L S)
@@ -107,10 +88,7 @@ module _ (g : Graph) (law : Lawful g) where
       → (T b → (X : List ℕ) → Among X S → Before (path g D) (path g X)) → ByPath g S → ByPath g (D ∷ L)
       → ByPath g (put_by a b K D L S)
   by_order true b K D L S f j s o = (
-    (λ X m. elim m [
-      | inl q ↦ subst (λ z. Before (path g K) (path g z)) (sym q) (f tt)
-      | inr q ↦ before_trans (path g K) (path g D) (path g X) (f tt) (o.0 X q)
-    ]),
+    (λ X m. grind (arith, before_trans)),
     o,
   )
   by_order false true K D L S f j s o = (j tt, s)
@@ -121,10 +99,7 @@ module _ (g : Graph) (law : Lawful g) where
   put_order K (D ∷ L) o =
       by_order (is_before (path g K) (path g D)) (is_before (path g D) (path g K)) K D L (put_by_path g K L)
       (test_before (path g K) (path g D))
-      (λ b X m. elim (put_out K L X m) [
-        | inl q ↦ subst (λ z. Before (path g D) (path g z)) (sym q) (test_before (path g D) (path g K) b)
-        | inr q ↦ o.0 X q
-      ])
+      (λ b X m. grind (arith, put_out, test_before))
       (put_order K L o.1) o
 
   abbrev kept_by : Bool → List ℕ → List (List ℕ) → List (List ℕ)
@@ -185,16 +160,10 @@ module _ (g : Graph) (law : Lawful g) where
       heads (inr p) (inr r) = absurd (not_self (path g x) (before_trans (path g x) (path g y) (path g x) (a.0 y r) (b.0 x p)))
 
       tail_f : x ≡ y → (K : List ℕ) → Among K A → Among K B
-      tail_f q K m = elim (f K (inr m)) [
-        | inl p ↦ absurd (not_self (path g x) (subst (λ z. Before (path g x) (path g z)) (p ∙ sym q) (a.0 K m)))
-        | inr p ↦ p
-      ]
+      tail_f q K m = grind (arith, not_self)
 
       tail_g : x ≡ y → (K : List ℕ) → Among K B → Among K A
-      tail_g q K m = elim (j K (inr m)) [
-        | inl p ↦ absurd (not_self (path g y) (subst (λ z. Before (path g y) (path g z)) (p ∙ q) (b.0 K m)))
-        | inr p ↦ p
-      ]
+      tail_g q K m = grind (arith, not_self)
 
   pub lists_one : (A B : List (List ℕ)) → ListsAll g A → ListsAll g B → A ≡ B
   lists_one A B a b = one_list A B a.order b.order (λ K m. b.every_one K (a.only K m)) (λ K m. a.every_one K (b.only K m))
@@ -205,28 +174,14 @@ module _ (g : Graph) (law : Lawful g) where
 
   order_lr : (A B : List (List ℕ)) → ByPath g (A ++ B) → (X Y : List ℕ) → Among X A → Among Y B → Before (path g X) (path g Y)
   order_lr [] B o X Y x y = absurd x
-  order_lr (D ∷ A) B o X Y (inl q) y = subst (λ z. Before (path g z) (path g Y)) (sym q) (o.0 Y (among_r A B Y y))
-  order_lr (D ∷ A) B o X Y (inr q) y = order_lr A B o.1 X Y q y
+  order_lr (D ∷ A) B o X Y q y = grind (arith, among_r, order_lr A)
 
   pub some_before : (K : List ℕ) → MaximalClique g K → Before [] (path g K)
-  some_before K c = go (path g K) (path_some g law K c)
-    where
-      go : (t : List ℕ) → ([] ≡ t → ⊥) → Before [] t
-      go [] f = f refl
-      go (x ∷ t) f = tt
+  some_before K c = grind (arith, path_some)
 
   -- what comes first
   pub start : (L : List (List ℕ)) → ListsAll g L → NextAfter g [] (first_set L)
-  start [] l = λ D c b. absurd (l.every_one D c)
-  start (D ∷ B) l =
-      let c = l.only D (inl refl) in (
-        c,
-        some_before D c,
-        λ D' c' b j. elim (l.every_one D' c') [
-          | inl q ↦ not_self (path g D) (subst (λ z. Before (path g z) (path g D)) q j)
-          | inr q ↦ not_self (path g D) (before_trans (path g D) (path g D') (path g D) (l.order.0 D' q) j)
-        ],
-      )
+  start L l = grind (arith, some_before, not_self, before_trans)
 
   -- what comes after a set of the list
   rest : (A : List (List ℕ)) (K : List ℕ) (B : List (List ℕ)) → ListsAll g (A ++ (K ∷ B)) → (D : List ℕ) → MaximalClique g D
@@ -236,10 +191,7 @@ module _ (g : Graph) (law : Lawful g) where
         | inl q ↦
             let a = order_lr A (K ∷ B) l.order D K q (inl refl) in
             absurd (not_self (path g K) (before_trans (path g K) (path g D) (path g K) b a))
-        | inr q ↦ elim q [
-          | inl z ↦ absurd (not_self (path g K) (subst (λ y. Before (path g K) (path g y)) z b))
-          | inr z ↦ z
-        ]
+        | inr q ↦ grind (arith, not_self)
       ]
 
   pub along : (A : List (List ℕ)) (K : List ℕ) (B : List (List ℕ)) → ListsAll g (A ++ (K ∷ B))
@@ -257,8 +209,4 @@ module _ (g : Graph) (law : Lawful g) where
 
   -- what comes next is one set
   pub next_one : (a : List ℕ) (r r' : Option (List ℕ)) → NextAfter g a r → NextAfter g a r' → r ≡ r'
-  next_one a None None x y = refl
-  next_one a None (Some D) x y = absurd (x D y.0 y.1)
-  next_one a (Some D) None x y = absurd (y D x.0 x.1)
-  next_one a (Some D) (Some D') x y =
-      ap Some (path_one g law D x.0 D' y.0 (neither (path g D) (path g D') (y.2 D x.0 x.1) (x.2 D' y.0 y.1)))
+  next_one a r s x y = grind (arith, path_one, neither)

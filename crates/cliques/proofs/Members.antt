@@ -3,7 +3,7 @@ use Rattle.std.proofs.Common.{◌≡◌, ℕ, zero, suc, ◌<◌, ◌≤◌, Boo
 use lib.Dec.{eqb_refl, not_T}
 use Rattle.cliques.specs.Graph.{Graph}
 use Rattle.cliques.specs.Sets.{has, In, every, filter, below, up_to, insert, places, partner_of_all}
-use Rattle.cliques.proofs.Tests.{or_split, or_l, or_r, and_l, and_r, and_mk, dec, lt_or}
+use Rattle.cliques.proofs.Tests.{or_split, or_l, or_r, and_mk, dec}
 
 pub in_cons : (w x : ℕ) (xs : List ℕ) → In w (x ∷ xs) → (w ≡ x) ⊎ In w xs
 in_cons w x xs t = elim (or_split (eqb w x) (has w xs) t) [ inl a ↦ inl (eqb→eq w x a) | inr b ↦ inr b ]
@@ -19,19 +19,11 @@ in_single w x m = elim (in_cons w x [] m) [ inl q ↦ q | inr q ↦ absurd q ]
 
 pub in_append : (A B : List ℕ) (w : ℕ) → In w (A ++ B) → In w A ⊎ In w B
 in_append [] B w m = inr m
-in_append (x ∷ A) B w m =
-    elim (in_cons w x (A ++ B) m) [
-      | inl q ↦ inl (subst (λ z. In z (x ∷ A)) (sym q) (in_here x A))
-      | inr q ↦ elim (in_append A B w q) [ inl a ↦ inl (in_there w x A a) | inr a ↦ inr a ]
-    ]
+in_append (x ∷ A) B w m = grind (arith, in_append A)
 
 pub append_l : (A B : List ℕ) (w : ℕ) → In w A → In w (A ++ B)
 append_l [] B w m = absurd m
-append_l (x ∷ A) B w m =
-    elim (in_cons w x A m) [
-      | inl q ↦ subst (λ z. In z (x ∷ (A ++ B))) (sym q) (in_here x (A ++ B))
-      | inr q ↦ in_there w x (A ++ B) (append_l A B w q)
-    ]
+append_l (x ∷ A) B w m = grind (arith, append_l A)
 
 pub append_r : (A B : List ℕ) (w : ℕ) → In w B → In w (A ++ B)
 append_r [] B w m = m
@@ -46,24 +38,15 @@ snoc_new A k w q = subst (λ z. In z (A ++ (k ∷ []))) (sym q) (append_r A (k �
 
 pub places_in : (k w : ℕ) → w < k → In w (places k)
 places_in zero w h = absurd (omega arith)
-places_in (suc k) w h =
-    elim (lt_or w k) [
-      | inl l ↦ append_l (places k) (k ∷ []) w (places_in k w l)
-      | inr l ↦ snoc_new (places k) k w (omega arith)
-    ]
+places_in (suc k) w h = grind (arith, append_l, snoc_new, places_in k)
 
 pub places_out : (k w : ℕ) → In w (places k) → w < k
 places_out zero w m = absurd m
-places_out (suc k) w m =
-    elim (snoc_out (places k) k w m) [ inl a ↦ let h = places_out k w a in omega arith | inr q ↦ omega arith ]
+places_out (suc k) w m = grind (arith, snoc_out, places_out k)
 
 pub every_at : (p : ℕ → Bool) (L : List ℕ) (w : ℕ) → T (every p L) → In w L → T (p w)
 every_at p [] w t m = absurd m
-every_at p (x ∷ xs) w t m =
-    elim (in_cons w x xs m) [
-      | inl q ↦ subst (λ z. T (p z)) (sym q) (and_l (p x) (every p xs) t)
-      | inr r ↦ every_at p xs w (and_r (p x) (every p xs) t) r
-    ]
+every_at p (x ∷ xs) w t m = grind (arith, every_at p xs)
 
 pub every_of : (p : ℕ → Bool) (L : List ℕ) → ((w : ℕ) → In w L → T (p w)) → T (every p L)
 every_of p [] f = tt
@@ -85,34 +68,13 @@ some_fails p (x ∷ xs) f =
       | inr t ↦ (x, in_here x xs, not_T (p x) t)
     ]
 
--- one more kept, or not
-pub kept_out : (b : Bool) (x : ℕ) (r : List ℕ) (w : ℕ) → In w (cond b (x ∷ r) r) → (T b × (w ≡ x)) ⊎ In w r
-kept_out true x r w m = elim (in_cons w x r m) [ inl q ↦ inl (tt, q) | inr t ↦ inr t ]
-kept_out false x r w m = inr m
-
-pub kept_new : (b : Bool) (x : ℕ) (r : List ℕ) → T b → In x (cond b (x ∷ r) r)
-kept_new true x r t = in_here x r
-kept_new false x r t = absurd t
-
-pub kept_old : (b : Bool) (x : ℕ) (r : List ℕ) (w : ℕ) → In w r → In w (cond b (x ∷ r) r)
-kept_old true x r w m = in_there w x r m
-kept_old false x r w m = m
-
 pub filter_in : (p : ℕ → Bool) (L : List ℕ) (w : ℕ) → In w L → T (p w) → In w (filter p L)
 filter_in p [] w m t = m
-filter_in p (x ∷ xs) w m t =
-    elim (in_cons w x xs m) [
-      | inl a ↦ subst (λ z. In z (filter p (x ∷ xs))) (sym a) (kept_new (p x) x (filter p xs) (subst (λ z. T (p z)) a t))
-      | inr a ↦ kept_old (p x) x (filter p xs) w (filter_in p xs w a t)
-    ]
+filter_in p (x ∷ xs) w m t = grind (arith, filter_in p xs)
 
 pub filter_out : (p : ℕ → Bool) (L : List ℕ) (w : ℕ) → In w (filter p L) → In w L × T (p w)
 filter_out p [] w m = absurd m
-filter_out p (x ∷ xs) w m =
-    elim (kept_out (p x) x (filter p xs) w m) [
-      | inl a ↦ (subst (λ z. In z (x ∷ xs)) (sym a.1) (in_here x xs), subst (λ z. T (p z)) (sym a.1) a.0)
-      | inr a ↦ (in_there w x xs (filter_out p xs w a).0, (filter_out p xs w a).1)
-    ]
+filter_out p (x ∷ xs) w m = grind (arith, filter_out p xs)
 
 pub below_in : (v : ℕ) (L : List ℕ) (w : ℕ) → In w L → w < v → In w (below v L)
 below_in v L w m h = filter_in (λ x. ltb x v) L w m (lt→ltb w v h)
@@ -131,10 +93,7 @@ put_out : (b : Bool) (k x : ℕ) (xs r : List ℕ) (w : ℕ) → In w (cond b (k
     → (w ≡ k) ⊎ In w (x ∷ xs)
 put_out true k x xs r w m f = in_cons w k (x ∷ xs) m
 put_out false k x xs r w m f =
-    elim (in_cons w x r m) [
-      | inl q ↦ inr (subst (λ z. In z (x ∷ xs)) (sym q) (in_here x xs))
-      | inr q ↦ elim (f q) [ inl a ↦ inl a | inr a ↦ inr (in_there w x xs a) ]
-    ]
+    grind (arith, in_cons, in_here, in_there)
 
 pub insert_out : (k : ℕ) (L : List ℕ) (w : ℕ) → In w (insert k L) → (w ≡ k) ⊎ In w L
 insert_out k [] w m = in_cons w k [] m
@@ -152,10 +111,7 @@ put_old : (b : Bool) (k x : ℕ) (xs r : List ℕ) (w : ℕ) → In w (x ∷ xs)
     → In w (cond b (k ∷ x ∷ xs) (x ∷ r))
 put_old true k x xs r w m f = in_there w k (x ∷ xs) m
 put_old false k x xs r w m f =
-    elim (in_cons w x xs m) [
-      | inl q ↦ subst (λ z. In z (x ∷ r)) (sym q) (in_here x r)
-      | inr q ↦ in_there w x r (f q)
-    ]
+    grind (arith, in_cons, in_here, in_there)
 
 pub insert_old : (k : ℕ) (L : List ℕ) (w : ℕ) → In w L → In w (insert k L)
 insert_old k [] w m = absurd m

@@ -43,12 +43,7 @@ module _ (g : Graph) (law : Lawful g) where
   pub through : (K D : List ℕ) → MaximalClique g K → MaximalClique g D → (y : ℕ) (r : List ℕ) → path g D ≡ path g K ++ (y ∷ r)
       → T (is_child g K y)
   through K D c c' y r q =
-      elim (prefix D c' (path g K) y r q) [
-        | inl a ↦ absurd (path_some g law K c (sym a.0))
-        | inr a ↦
-            let z : a.0 ≡ K = path_one g law a.0 a.2 K c a.3 in
-            child_test g law K y a.1 (subst (λ x. ChildAt g x y a.1) z a.4)
-      ]
+      grind (arith, prefix, path_some, path_one, child_test)
 
   -- the first entry of a path is a head
   pub first_head : (D : List ℕ) → MaximalClique g D → (y : ℕ) (r : List ℕ) → path g D ≡ (y ∷ r) → T (is_head g y)
@@ -63,8 +58,7 @@ module _ (g : Graph) (law : Lawful g) where
       → ((D : List ℕ) → MaximalClique g D → AtOrBefore a (path g D) → AtOrBefore b (path g D))
       → ((D : List ℕ) → MaximalClique g D → AtOrBefore b (path g D) → AtOrBefore a (path g D)) → LeastFrom g b r
       → LeastFrom g a r
-  moved a b None f j l = λ D c h. l D c (f D c h)
-  moved a b (Some D) f j l = (l.0, j D l.0 l.1, λ D' c h. l.2 D' c (f D' c h))
+  moved a b r f j l = grind arith
 
   -- the least head at or above w, and none
   pub heads_least : (w h : ℕ) → FirstFrom (is_head g) g.size w (Some h)
@@ -74,25 +68,11 @@ module _ (g : Graph) (law : Lawful g) where
       let q = path_head g law h d in (
         head_maximal g law h d,
         subst (λ z. AtOrBefore (w ∷ []) z) (sym q) (le_min [] w h [] s.0),
-        λ D c l. elim (split [] w (path g D) l) [
-          | inl a ↦
-              let t = first_head D c a.0 a.1 a.2 in
-              let m = first_least (is_head g) g.size w h s a.0 a.3 t in
-              subst (λ z. AtOrBefore z (path g D)) (sym q)
-              (subst (λ z. AtOrBefore (h ∷ []) z) (sym a.2) (le_min [] h a.0 a.1 m))
-          | inr a ↦ absurd a
-        ],
+        λ D c l. grind (arith, split, first_head, first_least, le_min),
       )
 
   pub heads_none : (w : ℕ) → FirstFrom (is_head g) g.size w None → LeastFrom g (w ∷ []) None
-  heads_none w s = λ D c l.
-      elim (split [] w (path g D) l) [
-        | inl a ↦
-            let t = first_head D c a.0 a.1 a.2 in
-            let p = (test_head g law a.0 t).place in
-            of_false (is_head g a.0) (s a.0 a.3 (omega arith)) t
-        | inr a ↦ a
-      ]
+  heads_none w s = grind (arith, first_head)
 
   -- without a child at or above w, what is at or after the path with w is larger at a difference
   pub no_child : (K : List ℕ) (w : ℕ) → MaximalClique g K → FirstFrom (is_child g K) g.size w None → (D : List ℕ)
@@ -147,9 +127,7 @@ module _ (g : Graph) (law : Lawful g) where
 
   -- from the least at or after to the next
   pub least_next : (a : List ℕ) (r : Option (List ℕ)) → LeastFrom g (a ++ (0 ∷ [])) r → NextAfter g a r
-  least_next a None l = λ D c b. l D c (before_from a (path g D) b)
-  least_next a (Some D) l =
-      (l.0, from_before a 0 (path g D) l.1, λ D' c b j. le_not (path g D) (path g D') (l.2 D' c (before_from a (path g D') b)) j)
+  least_next a r l = grind (arith, before_from, from_before, le_not)
 
   -- a child lies above the parent index, so a search may begin there
   pub from_index : (K : List ℕ) (r : Option (List ℕ)) → MaximalClique g K
@@ -162,8 +140,5 @@ module _ (g : Graph) (law : Lawful g) where
             (test_child g law K a.0 (through K D c c' a.0 a.1 a.2)).above)
         | inr a ↦ precedes_le (path g K) (suc (parent_index g K)) (path g D) a
       ])
-      (λ D c' h. elim (split (path g K) (suc (parent_index g K)) (path g D) h) [
-        | inl a ↦ subst (λ z. AtOrBefore (path g K ++ (0 ∷ [])) z) (sym a.2) (le_min (path g K) 0 a.0 a.1 (omega arith))
-        | inr a ↦ precedes_le (path g K) 0 (path g D) a
-      ])
+      (λ D c' h. grind (arith, split, le_min, precedes_le))
       l

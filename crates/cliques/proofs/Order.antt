@@ -1,8 +1,8 @@
 -- The order of paths, as an order of lists.
-use Rattle.std.proofs.Common.{◌≡◌, ℕ, suc, ◌≤◌, ◌&&◌, T, eqb, ltb, ◌⊎◌, List, [], ◌∷◌, ◌++◌, refl, ap, ◌∙◌, inl, inr, arith, eqb→eq, ltb→lt, lt→ltb}
+use Rattle.std.proofs.Common.{◌≡◌, ℕ, suc, ◌≤◌, T, ◌⊎◌, List, [], ◌∷◌, ◌++◌, refl, ap, inl, inr, arith}
 use Rattle.cliques.specs.Sets.{Precedes}
 use Rattle.cliques.specs.Paths.{Before, is_before, AtOrBefore}
-use Rattle.cliques.proofs.Tests.{or_split, or_l, or_r, and_l, and_r, and_mk, lt_or, eqb_of}
+use Rattle.cliques.proofs.Tests.{lt_or}
 
 -- lists that are not empty, or end in one entry
 pub nil_mid : (s : List ℕ) (y : ℕ) (r : List ℕ) → [] ≡ s ++ (y ∷ r) → ⊥
@@ -24,59 +24,38 @@ pub snoc_split : (a s : List ℕ) (v y : ℕ) (r : List ℕ) → a ++ (v ∷ [])
 snoc_split [] [] v y r q = inl (refl, cc)
 snoc_split [] (x ∷ s) v y r q = let z : [] ≡ s ++ (y ∷ r) = cc in absurd (nil_mid s y r z)
 snoc_split (x ∷ a) [] v y r q = let p : x ≡ y = cc in inr (a, ap (λ z. z ∷ a) p)
-snoc_split (x ∷ a) (z ∷ s) v y r q =
-    let p : x ≡ z = cc in
-    let t : a ++ (v ∷ []) ≡ s ++ (y ∷ r) = cc in
-    elim (snoc_split a s v y r t) [
-      | inl b ↦ let b0 = b.0 in inl (cc, b.1)
-      | inr b ↦ let b1 = b.1 in inr (b.0, cc)
-    ]
+snoc_split (x ∷ a) (z ∷ s) v y r q = grind (arith, snoc_split a s)
 
 -- before, at or before
 pub before_from : (s t : List ℕ) → Before s t → AtOrBefore (s ++ (0 ∷ [])) t
 before_from [] [] b = absurd b
 before_from [] (y ∷ t) b = elim (lt_or 0 y) [ inl h ↦ inl h | inr h ↦ inr (omega arith, tt) ]
 before_from (x ∷ s) [] b = b
-before_from (x ∷ s) (y ∷ t) (inl h) = inl h
-before_from (x ∷ s) (y ∷ t) (inr h) = inr (h.0, before_from s t h.1)
+before_from (x ∷ s) (y ∷ t) h = grind (arith, before_from s t)
 
 pub from_before : (s : List ℕ) (w : ℕ) (t : List ℕ) → AtOrBefore (s ++ (w ∷ [])) t → Before s t
 from_before [] w [] l = l
 from_before [] w (y ∷ t) l = tt
 from_before (x ∷ s) w [] l = l
-from_before (x ∷ s) w (y ∷ t) (inl h) = inl h
-from_before (x ∷ s) w (y ∷ t) (inr h) = inr (h.0, from_before s w t h.1)
+from_before (x ∷ s) w (y ∷ t) h = grind (arith, from_before s w t)
 
 pub le_not : (s t : List ℕ) → AtOrBefore s t → Before t s → ⊥
 le_not [] [] l b = b
 le_not [] (y ∷ t) l b = b
 le_not (x ∷ s) [] l b = l
-le_not (x ∷ s) (y ∷ t) (inl l) (inl b) = omega arith
-le_not (x ∷ s) (y ∷ t) (inl l) (inr b) = omega (arith, b.0)
-le_not (x ∷ s) (y ∷ t) (inr l) (inl b) = omega (arith, l.0)
-le_not (x ∷ s) (y ∷ t) (inr l) (inr b) = le_not s t l.1 b.1
+le_not (x ∷ s) (y ∷ t) l b = grind (arith, le_not s t)
 
 pub before_or : (s t : List ℕ) → Before s t ⊎ AtOrBefore t s
 before_or [] [] = inr tt
 before_or [] (y ∷ t) = inl tt
 before_or (x ∷ s) [] = inr tt
-before_or (x ∷ s) (y ∷ t) =
-    elim (lt_or x y) [
-      | inl h ↦ inl (inl h)
-      | inr h ↦ elim (lt_or y x) [
-        | inl j ↦ inr (inl j)
-        | inr j ↦ elim (before_or s t) [ inl b ↦ inl (inr (omega arith, b)) | inr b ↦ inr (inr (omega arith, b)) ]
-      ]
-    ]
+before_or (x ∷ s) (y ∷ t) = grind (arith, before_or s t)
 
 pub le_anti : (s t : List ℕ) → AtOrBefore s t → AtOrBefore t s → s ≡ t
 le_anti [] [] l m = refl
 le_anti [] (y ∷ t) l m = absurd m
 le_anti (x ∷ s) [] l m = absurd l
-le_anti (x ∷ s) (y ∷ t) (inl l) (inl m) = absurd (omega arith)
-le_anti (x ∷ s) (y ∷ t) (inl l) (inr m) = absurd (omega (arith, m.0))
-le_anti (x ∷ s) (y ∷ t) (inr l) (inl m) = absurd (omega (arith, l.0))
-le_anti (x ∷ s) (y ∷ t) (inr l) (inr m) = let q = le_anti s t l.1 m.1 in let p = l.0 in cc
+le_anti (x ∷ s) (y ∷ t) l m = grind (arith, le_anti s t)
 
 pub before_trans : (s t u : List ℕ) → Before s t → Before t u → Before s u
 before_trans [] [] u a b = absurd a
@@ -84,15 +63,11 @@ before_trans [] (y ∷ t) [] a b = b
 before_trans [] (y ∷ t) (z ∷ u) a b = tt
 before_trans (x ∷ s) [] u a b = absurd a
 before_trans (x ∷ s) (y ∷ t) [] a b = b
-before_trans (x ∷ s) (y ∷ t) (z ∷ u) (inl a) (inl b) = inl (omega arith)
-before_trans (x ∷ s) (y ∷ t) (z ∷ u) (inl a) (inr b) = inl (omega (arith, b.0))
-before_trans (x ∷ s) (y ∷ t) (z ∷ u) (inr a) (inl b) = inl (omega (arith, a.0))
-before_trans (x ∷ s) (y ∷ t) (z ∷ u) (inr a) (inr b) = inr (a.0 ∙ b.0, before_trans s t u a.1 b.1)
+before_trans (x ∷ s) (y ∷ t) (z ∷ u) a b = grind (arith, before_trans s t u)
 
 pub not_self : (s : List ℕ) → Before s s → ⊥
 not_self [] b = b
-not_self (x ∷ s) (inl b) = omega arith
-not_self (x ∷ s) (inr b) = not_self s b.1
+not_self (x ∷ s) b = grind (arith, not_self s)
 
 -- t goes on from s with an entry at or above w
 abbrev pub Runs : List ℕ → ℕ → List ℕ → Type 0
@@ -100,15 +75,9 @@ Runs s w t = (y : ℕ) × (r : List ℕ) × (t ≡ s ++ (y ∷ r)) × (w ≤ y)
 
 pub split : (s : List ℕ) (w : ℕ) (t : List ℕ) → AtOrBefore (s ++ (w ∷ [])) t → Runs s w t ⊎ Precedes s t
 split [] w [] l = absurd l
-split [] w (y ∷ t) (inl l) = inl (y, t, refl, omega arith)
-split [] w (y ∷ t) (inr l) = inl (y, t, refl, omega (arith, l.0))
+split [] w (y ∷ t) l = grind arith
 split (x ∷ s) w [] l = absurd l
-split (x ∷ s) w (y ∷ t) (inl l) = inr (inl l)
-split (x ∷ s) w (y ∷ t) (inr l) =
-    elim (split s w t l.1) [
-      | inl a ↦ let p = l.0 in let q = a.2 in inl (a.0, a.1, cc, a.3)
-      | inr a ↦ inr (inr (l.0, a))
-    ]
+split (x ∷ s) w (y ∷ t) l = grind (arith, split s w t)
 
 pub le_min : (s : List ℕ) (w y : ℕ) (r : List ℕ) → w ≤ y → AtOrBefore (s ++ (w ∷ [])) (s ++ (y ∷ r))
 le_min [] w y r h = elim (lt_or w y) [ inl j ↦ inl j | inr j ↦ inr (omega arith, tt) ]
@@ -117,48 +86,33 @@ le_min (x ∷ s) w y r h = inr (refl, le_min s w y r h)
 pub precedes_le : (s : List ℕ) (w : ℕ) (t : List ℕ) → Precedes s t → AtOrBefore (s ++ (w ∷ [])) t
 precedes_le [] w t o = absurd o
 precedes_le (x ∷ s) w [] o = o
-precedes_le (x ∷ s) w (y ∷ t) (inl o) = inl o
-precedes_le (x ∷ s) w (y ∷ t) (inr o) = inr (o.0, precedes_le s w t o.1)
+precedes_le (x ∷ s) w (y ∷ t) o = grind (arith, precedes_le s w t)
 
 pub precedes_snoc : (s : List ℕ) (v : ℕ) (t : List ℕ) → Precedes (s ++ (v ∷ [])) t → AtOrBefore (s ++ (suc v ∷ [])) t
 precedes_snoc [] v [] o = o
-precedes_snoc [] v (y ∷ t) (inl o) = elim (lt_or (suc v) y) [ inl h ↦ inl h | inr h ↦ inr (omega arith, tt) ]
-precedes_snoc [] v (y ∷ t) (inr o) = absurd o.1
+precedes_snoc [] v (y ∷ t) o = grind arith
 precedes_snoc (x ∷ s) v [] o = o
-precedes_snoc (x ∷ s) v (y ∷ t) (inl o) = inl o
-precedes_snoc (x ∷ s) v (y ∷ t) (inr o) = inr (o.0, precedes_snoc s v t o.1)
+precedes_snoc (x ∷ s) v (y ∷ t) o = grind (arith, precedes_snoc s v t)
 
 pub snoc_precedes : (s : List ℕ) (v : ℕ) (t : List ℕ) → AtOrBefore (s ++ (suc v ∷ [])) t → Precedes (s ++ (v ∷ [])) t
 snoc_precedes [] v [] l = l
-snoc_precedes [] v (y ∷ t) (inl l) = inl (omega arith)
-snoc_precedes [] v (y ∷ t) (inr l) = inl (omega (arith, l.0))
+snoc_precedes [] v (y ∷ t) l = grind arith
 snoc_precedes (x ∷ s) v [] l = l
-snoc_precedes (x ∷ s) v (y ∷ t) (inl l) = inl l
-snoc_precedes (x ∷ s) v (y ∷ t) (inr l) = inr (l.0, snoc_precedes s v t l.1)
+snoc_precedes (x ∷ s) v (y ∷ t) l = grind (arith, snoc_precedes s v t)
 
 -- the order as a test
 pub before_test : (s t : List ℕ) → Before s t → T (is_before s t)
 before_test [] [] b = b
 before_test [] (y ∷ t) b = tt
 before_test (x ∷ s) [] b = b
-before_test (x ∷ s) (y ∷ t) (inl h) = or_l (ltb x y) (eqb x y && is_before s t) (lt→ltb x y h)
-before_test (x ∷ s) (y ∷ t) (inr h) =
-    or_r (ltb x y) (eqb x y && is_before s t) (and_mk (eqb x y) (is_before s t) (eqb_of x y h.0) (before_test s t h.1))
+before_test (x ∷ s) (y ∷ t) h = grind (arith, before_test s t)
 
 pub test_before : (s t : List ℕ) → T (is_before s t) → Before s t
 test_before [] [] b = b
 test_before [] (y ∷ t) b = tt
 test_before (x ∷ s) [] b = b
-test_before (x ∷ s) (y ∷ t) b =
-    elim (or_split (ltb x y) (eqb x y && is_before s t) b) [
-      | inl h ↦ inl (ltb→lt x y h)
-      | inr h ↦ inr (eqb→eq x y (and_l (eqb x y) (is_before s t) h), test_before s t (and_r (eqb x y) (is_before s t) h))
-    ]
+test_before (x ∷ s) (y ∷ t) b = grind (arith, test_before s t)
 
 -- neither before the other: equal
 pub neither : (s t : List ℕ) → (Before s t → ⊥) → (Before t s → ⊥) → s ≡ t
-neither s t f j =
-    elim (before_or s t) [
-      | inl a ↦ absurd (f a)
-      | inr a ↦ elim (before_or t s) [ inl b ↦ absurd (j b) | inr b ↦ le_anti s t b a ]
-    ]
+neither s t f j = grind (arith, before_or, le_anti)

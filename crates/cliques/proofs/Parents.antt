@@ -1,9 +1,9 @@
 -- The parent of a maximal clique.
-use Rattle.std.proofs.Common.{◌≡◌, ℕ, ◌<◌, Bool, true, false, ◌&&◌, T, ltb, ◌⊎◌, List, Some, None, Option, sym, refl, ap, ◌∙◌, subst, inl, inr, arith, ltb→lt, lt→ltb}
+use Rattle.std.proofs.Common.{◌≡◌, ℕ, ◌<◌, Bool, true, false, ◌&&◌, T, ltb, ◌⊎◌, List, Some, None, Option, sym, refl, ap, ◌∙◌, subst, inl, inr, arith, lt→ltb}
 use Rattle.cliques.specs.Graph.{Graph, Lawful}
-use Rattle.cliques.specs.Sets.{has, In, below, up_to, insert, smallest, Clique, MaximalClique}
+use Rattle.cliques.specs.Sets.{In, below, up_to, insert, smallest, Clique, MaximalClique}
 use Rattle.cliques.specs.Completion.{completion, parent_index, ParentIndexAt, root, parent, parent_of, partners_below, ChildAt}
-use Rattle.cliques.proofs.Tests.{and_l, and_r, and_mk, dec, lt_or, is_true, is_false}
+use Rattle.cliques.proofs.Tests.{and_mk, dec, lt_or, is_true, is_false}
 use Rattle.cliques.proofs.Laws.{partners_both, partners_within}
 use Rattle.cliques.proofs.Members.{filter_in, filter_out, below_in, below_out, up_to_in, up_to_out, insert_out, insert_new}
 use Rattle.cliques.proofs.Rising.{ext, filter_rising, insert_rising, below_rising, smallest_in, up_to_insert}
@@ -16,13 +16,11 @@ use Rattle.cliques.proofs.Completions.{
   completion_of,
   part_clique,
 }
-use Rattle.cliques.proofs.Indices.{up_to_clique, below_clique, index_at, index_below, root_eq, root_or}
+use Rattle.cliques.proofs.Indices.{up_to_clique, below_clique, index_at, index_below, root_or}
 
 module _ (g : Graph) (law : Lawful g) where
   pub partners_below_out : (v : ℕ) (K : List ℕ) (w : ℕ) → In w (partners_below g v K) → In w K × (w < v) × T (g.partners v w)
-  partners_below_out v K w m =
-      let a = filter_out (λ u. ltb u v && g.partners v u) K w m in
-      (a.0, ltb→lt w v (and_l (ltb w v) (g.partners v w) a.1), and_r (ltb w v) (g.partners v w) a.1)
+  partners_below_out v K w m = grind (arith, filter_out)
 
   pub partners_below_in : (v : ℕ) (K : List ℕ) (w : ℕ) → In w K → w < v → T (g.partners v w) → In w (partners_below g v K)
   partners_below_in v K w m h t = filter_in (λ u. ltb u v && g.partners v u) K w m (and_mk (ltb w v) (g.partners v w) (lt→ltb w v h) t)
@@ -88,35 +86,20 @@ module _ (g : Graph) (law : Lawful g) where
         let q : F ≡ K = unique g (up_to v K) F K
         (widen g (below v K) (up_to v K) F is_b
         (λ w k. let a = below_out v K w k in up_to_in v K w a.0 (omega arith))
-        (λ w k. let a = up_to_out v K w k in elim (lt_or w v) [
-          | inl l ↦ is_b.sub w (below_in v K w a.0 l)
-          | inr l ↦ let z : v ≡ w = omega arith in subst (λ y. In y F) z m
-        ]))
+        (λ w k. let a = up_to_out v K w k in grind (arith, lt_or, is_b, below_in)))
         is_u parent_maximal.clique.sorted c.clique.sorted in
         let l = parent_lower in
         let e : parent_index g F ≡ v = ap (parent_index g) q in
         omega arith
 
     back_in : (w : ℕ) → In w F → w < v → T (g.partners v w) → (In w (below v K) → ⊥) → In w K
-    back_in w wf l ev out =
-        is_u.greedy w
-        (λ x xm. let a = up_to_out v K x xm in elim (lt_or x v) [
-          | inl q ↦ pairs x (below_in v K x a.0 q)
-          | inr q ↦ let z : v ≡ x = omega arith in subst (λ y. T (g.partners w y)) z (partners_both g law v w ev)
-        ])
-        (λ u um uw. pairs u (below_in v K u um (omega arith)))
-      where
-        pairs : (x : ℕ) → In x (below v K) → T (g.partners w x)
-        pairs x xp = is_b.pairs w x wf (is_b.sub x xp) (λ q. out (subst (λ y. In y (below v K)) (sym q) xp))
+    back_in w wf l ev out = grind (arith, is_u, up_to_out, below_in, is_b)
 
     -- the partners of the parent index below it in the parent are the members of K below it
     pub parent_partners : partners_below g v F ≡ below v K
     parent_partners =
         ext (partners_below g v F) (below v K) (filter_rising _ F parent_maximal.clique.sorted) (below_rising v K c.clique.sorted)
-        (λ w k. let a = partners_below_out v F w k in elim (dec (has w (below v K))) [
-          | inl q ↦ q
-          | inr q ↦ below_in v K w (back_in w a.0 a.1 a.2 q) a.1
-        ])
+        (λ w k. let a = partners_below_out v F w k in grind (arith, dec, below_in, back_in))
         (λ w k. let a = below_out v K w k in
         partners_below_in v F w (is_b.sub w k) a.1 (c.clique.pairwise v w at.member a.0 (λ q. absurd (omega arith))))
 
@@ -142,19 +125,11 @@ module _ (g : Graph) (law : Lawful g) where
   parent_of_some K f = ap (λ b. parent_by b K) (is_false (root g K) f)
 
   pub none_root : (K : List ℕ) → parent_of g K ≡ None → T (root g K)
-  none_root K q =
-      elim (dec (root g K)) [
-        | inl t ↦ t
-        | inr t ↦ let p = parent_of_some K t in let z : ◌≡◌ {A = ℕ} 0 1 = cc in absurd (omega arith)
-      ]
+  none_root K q = grind arith
 
   pub parent_of_is : (K F : List ℕ) → MaximalClique g K → parent_of g K ≡ Some F
       → (smallest K < parent_index g K) × (parent g K ≡ F)
-  parent_of_is K F c q =
-      elim (root_or g law K c) [
-        | inl t ↦ let p = parent_of_none K t in let z : ◌≡◌ {A = ℕ} 0 1 = cc in absurd (omega arith)
-        | inr h ↦ let p = parent_of_some K (λ t. let e = root_eq g law K t in absurd (omega arith)) in (h, cc)
-      ]
+  parent_of_is K F c q = grind (arith, root_or)
 
   -- what holds of the computed parent holds of the parent that K has
   pub of_parent : (P : List ℕ → Type 0) (K F : List ℕ) → MaximalClique g K → parent_of g K ≡ Some F

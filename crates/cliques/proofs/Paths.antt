@@ -7,9 +7,9 @@ use Rattle.cliques.specs.Paths.{path_end, path, Before}
 use Rattle.cliques.proofs.Tests.{is_true, is_false}
 use Rattle.cliques.proofs.Members.{in_single, snoc_out}
 use Rattle.cliques.proofs.Rising.{snoc_rising}
-use Rattle.cliques.proofs.Indices.{index_at, root_eq, root_or, root_completion, root_head, head_maximal, head_index, head_root}
+use Rattle.cliques.proofs.Indices.{index_at, root_eq, root_or, root_completion, root_head, head_index, head_root}
 use Rattle.cliques.proofs.Parents.{parent_maximal, parent_lower, parent_child}
-use Rattle.cliques.proofs.Children.{child_maximal, child_index, child_parent, child_low, child_one}
+use Rattle.cliques.proofs.Children.{child_maximal, child_index, child_low, child_one}
 use Rattle.cliques.proofs.Order.{nil_mid, snoc_inj, before_or, le_anti}
 
 module _ (g : Graph) (law : Lawful g) where
@@ -29,14 +29,7 @@ module _ (g : Graph) (law : Lawful g) where
       → path_end g f K ≡ path_end g j K
   path_end_same zero j K c p q = absurd (omega arith)
   path_end_same (suc f) zero K c p q = absurd (omega arith)
-  path_end_same (suc f) (suc j) K c p q =
-      elim (root_or g law K c) [
-        | inl r ↦ path_end_root f K r ∙ sym (path_end_root j K r)
-        | inr h ↦
-            let l = parent_lower g law K c h in
-            let i = path_end_same f j (parent g K) (parent_maximal g law K c h) (omega arith) (omega arith) in
-            path_end_child f K h ∙ (ap (λ z. z ++ (parent_index g K ∷ [])) i ∙ sym (path_end_child j K h))
-      ]
+  path_end_same (suc f) (suc j) K c p q = grind (arith, root_or, parent_lower, parent_maximal, path_end_same f j)
 
   pub index_low : (K : List ℕ) → MaximalClique g K → parent_index g K < g.size
   index_low K c = c.clique.within (parent_index g K) (index_at g law K c).member
@@ -52,15 +45,10 @@ module _ (g : Graph) (law : Lawful g) where
   path_parent K c h = path_next K c ∙ path_end_child g.size K h
 
   pub path_head : (h : ℕ) → Head g h → path g (completion g (h ∷ [])) ≡ (h ∷ [])
-  path_head h d =
-      path_root (completion g (h ∷ [])) (head_maximal g law h d) (head_root g law h d) ∙ ap (λ z. z ∷ []) (head_index g law h d)
+  path_head h d = grind (arith, head_root, head_index)
 
   pub path_child : (K D : List ℕ) (v : ℕ) → MaximalClique g K → ChildAt g K v D → path g D ≡ path g K ++ (v ∷ [])
-  path_child K D v c d =
-      let i : parent_index g D ≡ v = child_index g law K D v c d in
-      let l = child_low g law K D v c d in
-      path_parent D (child_maximal g law K D v c d) (omega arith)
-      ∙ (ap (λ z. path g z ++ (parent_index g D ∷ [])) (child_parent g law K D v c d) ∙ ap (λ z. path g K ++ (z ∷ [])) i)
+  path_child K D v c d = grind (arith, child_index, child_low, path_parent, child_maximal)
 
   -- every maximal clique is the completion of a head, or a child
   abbrev pub View : List ℕ → Type 0
@@ -134,10 +122,7 @@ module _ (g : Graph) (law : Lawful g) where
       let i = child_index g law F D v c d in
       let l = d.above in (
         subst (λ z. Rising z) (sym q) (snoc_rising (path g F) v ih.0 (λ w m. let a = ih.1 w m in omega arith)),
-        (λ w m. elim (snoc_out (path g F) v w (subst (λ z. In w z) q m)) [
-          | inl a ↦ let b = ih.1 w a in omega arith
-          | inr a ↦ omega arith
-        ]),
+        (λ w m. grind (arith, snoc_out)),
       ))
 
   pub path_rises : (K : List ℕ) → MaximalClique g K → Rising (path g K)
@@ -147,10 +132,4 @@ module _ (g : Graph) (law : Lawful g) where
   pub path_total : (K D : List ℕ) → MaximalClique g K → MaximalClique g D
       → Before (path g K) (path g D) ⊎ ((K ≡ D) ⊎ Before (path g D) (path g K))
   path_total K D c d =
-      elim (before_or (path g K) (path g D)) [
-        | inl a ↦ inl a
-        | inr a ↦ elim (before_or (path g D) (path g K)) [
-          | inl b ↦ inr (inr b)
-          | inr b ↦ inr (inl (path_one K c D d (le_anti (path g K) (path g D) b a)))
-        ]
-      ]
+      grind (arith, before_or, path_one, le_anti)

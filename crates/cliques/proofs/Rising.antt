@@ -1,5 +1,5 @@
 -- Rising lists.
-use Rattle.std.proofs.Common.{◌≡◌, ℕ, suc, ◌-◌, ◌<◌, ◌≤◌, Bool, true, false, cond, not, T, eqb, ltb, ◌⊎◌, List, [], ◌∷◌, ◌++◌, length, sym, refl, ap, subst, inl, inr, arith, eqb→eq, ltb→lt, lt→ltb, nltb→le}
+use Rattle.std.proofs.Common.{◌≡◌, ℕ, suc, ◌-◌, ◌<◌, ◌≤◌, Bool, true, false, cond, T, eqb, ltb, ◌⊎◌, List, [], ◌∷◌, ◌++◌, length, sym, refl, ap, subst, inl, inr, arith, ltb→lt, lt→ltb}
 use lib.Dec.{eqb_refl}
 use Rattle.cliques.specs.Sets.{In, Sub, every, filter, below, up_to, same, rising, Rising, insert, first_of, smallest}
 use Rattle.cliques.proofs.Tests.{and_l, and_r, and_mk, lt_or, of_true}
@@ -32,11 +32,7 @@ pub rising_cons : (x : ℕ) (xs : List ℕ) → ((w : ℕ) → In w xs → x < w
 rising_cons x xs f r = and_mk (every (λ y. ltb x y) xs) (rising xs) (every_of (λ y. ltb x y) xs (λ w m. lt→ltb x w (f w m))) r
 
 tails : (x : ℕ) (xs ys : List ℕ) → Rising (x ∷ xs) → Sub (x ∷ xs) (x ∷ ys) → Sub xs ys
-tails x xs ys r s w m =
-    elim (in_cons w x ys (s w (in_there w x xs m))) [
-      | inl q ↦ let h : x < w = rising_head x xs r w m in absurd (omega arith)
-      | inr q ↦ q
-    ]
+tails x xs ys r s w m = grind (arith, rising_head)
 
 -- two rising lists with the same members are equal
 pub ext : (A B : List ℕ) → Rising A → Rising B → Sub A B → Sub B A → A ≡ B
@@ -62,27 +58,11 @@ kept_rising false x r s f = s
 
 pub filter_rising : (p : ℕ → Bool) (L : List ℕ) → Rising L → Rising (filter p L)
 filter_rising p [] r = tt
-filter_rising p (x ∷ xs) r =
-    kept_rising (p x) x (filter p xs) (filter_rising p xs (rising_tail x xs r)) (λ w m. rising_head x xs r w (filter_out p xs w m).0)
+filter_rising p (x ∷ xs) r = grind (arith, kept_rising, rising_head, filter_out, filter_rising p xs)
 
 pub insert_rising : (k : ℕ) (L : List ℕ) → Rising L → (In k L → ⊥) → Rising (insert k L)
 insert_rising k [] r h = tt
-insert_rising k (x ∷ xs) r h = go (ltb k x) refl (insert_rising k xs (rising_tail x xs r) (λ m. h (in_there k x xs m)))
-  where
-    lower : ltb k x ≡ true → (w : ℕ) → (w ≡ x) ⊎ In w xs → k < w
-    lower q w (inl a) = let j : k < x = ltb→lt k x (subst T (sym q) tt) in omega arith
-    lower q w (inr a) = let j : k < x = ltb→lt k x (subst T (sym q) tt) in let j2 = rising_head x xs r w a in omega arith
-
-    upper : ltb k x ≡ false → (w : ℕ) → (w ≡ k) ⊎ In w xs → x < w
-    upper q w (inl a) =
-        let j : x ≤ k = nltb→le k x (subst (λ b. T (not b)) (sym q) tt) in
-        let d : x ≡ k → ⊥ = λ z. h (subst (λ y. In k (y ∷ xs)) (sym z) (in_here k xs)) in
-        omega arith
-    upper q w (inr a) = rising_head x xs r w a
-
-    go : (b : Bool) → ltb k x ≡ b → Rising (insert k xs) → Rising (cond b (k ∷ x ∷ xs) (x ∷ insert k xs))
-    go true q s = rising_cons k (x ∷ xs) (λ w m. lower q w (in_cons w x xs m)) r
-    go false q s = rising_cons x (insert k xs) (λ w m. upper q w (insert_out k xs w m)) s
+insert_rising k (x ∷ xs) r h = grind (arith, rising_head, rising_cons, insert_out, insert_rising k xs)
 
 pub below_rising : (v : ℕ) (L : List ℕ) → Rising L → Rising (below v L)
 below_rising v L r = filter_rising _ L r
@@ -105,25 +85,14 @@ pub below_more : (k : ℕ) (L : List ℕ) → Rising L → In k L → below (suc
 below_more k L r m =
     ext (below (suc k) L) (below k L ++ (k ∷ []))
     (below_rising (suc k) L r) (snoc_rising (below k L) k (below_rising k L r) (λ w h. (below_out k L w h).1))
-    (λ w h. let a = below_out (suc k) L w h in elim (lt_or w k) [
-      | inl z ↦ append_l (below k L) (k ∷ []) w (below_in k L w a.0 z)
-      | inr z ↦ snoc_new (below k L) k w (omega arith)
-    ])
-    (λ w h. elim (snoc_out (below k L) k w h) [
-      | inl z ↦ let a = below_out k L w z in below_in (suc k) L w a.0 (omega arith)
-      | inr q ↦ below_in (suc k) L w (subst (λ y. In y L) (sym q) m) (omega arith)
-    ])
+    (λ w h. let a = below_out (suc k) L w h in grind (arith, lt_or, append_l, below_in, snoc_new))
+    (λ w h. grind (arith, snoc_out, below_out, below_in))
 
 pub below_same : (k : ℕ) (L : List ℕ) → Rising L → (In k L → ⊥) → below (suc k) L ≡ below k L
-below_same k L r out =
-    ext (below (suc k) L) (below k L) (below_rising (suc k) L r) (below_rising k L r)
-    (λ w h. let a = below_out (suc k) L w h in
-    let d : w ≡ k → ⊥ = λ q. out (subst (λ y. In y L) q a.0) in below_in k L w a.0 (omega arith))
-    (λ w h. let a = below_out k L w h in below_in (suc k) L w a.0 (omega arith))
+below_same k L r out = grind (arith, ext, below_rising, below_out, below_in)
 
 pub below_none : (L : List ℕ) → Rising L → below 0 L ≡ []
-below_none L r =
-    ext (below 0 L) [] (below_rising 0 L r) tt (λ w h. let a = below_out 0 L w h in absurd (omega arith)) (λ w h. absurd h)
+below_none L r = grind (arith, ext, below_rising, below_out)
 
 pub below_all : (k : ℕ) (L : List ℕ) → Rising L → ((w : ℕ) → In w L → w < k) → below k L ≡ L
 below_all k L r f = ext (below k L) L (below_rising k L r) r (λ w h. (below_out k L w h).0) (λ w h. below_in k L w h (f w h))
@@ -153,10 +122,7 @@ pub same_eq : (A B : List ℕ) → T (same A B) → A ≡ B
 same_eq [] [] t = refl
 same_eq [] (y ∷ ys) t = absurd t
 same_eq (x ∷ xs) [] t = absurd t
-same_eq (x ∷ xs) (y ∷ ys) t =
-    let p : x ≡ y = eqb→eq x y (and_l (eqb x y) (same xs ys) t) in
-    let q : xs ≡ ys = same_eq xs ys (and_r (eqb x y) (same xs ys) t) in
-    cc
+same_eq (x ∷ xs) (y ∷ ys) t = grind (arith, same_eq xs ys)
 
 pub same_refl : (A : List ℕ) → T (same A A)
 same_refl [] = tt
@@ -167,12 +133,10 @@ eq_same A B q = subst (λ z. T (same A z)) q (same_refl A)
 
 -- the smallest member
 pub smallest_in : (K : List ℕ) → (u : ℕ) → In u K → In (smallest K) K
-smallest_in [] u m = absurd m
-smallest_in (x ∷ xs) u m = in_here x xs
+smallest_in a u m = grind arith
 
 pub smallest_le : (K : List ℕ) → Rising K → (u : ℕ) → In u K → smallest K ≤ u
-smallest_le [] r u m = absurd m
-smallest_le (x ∷ xs) r u m = elim (in_cons u x xs m) [ inl q ↦ omega arith | inr q ↦ let j = rising_head x xs r u q in omega arith ]
+smallest_le a r u m = grind (arith, rising_head)
 
 -- the first member that passes, the last member
 abbrev pub First : (ℕ → Bool) → List ℕ → ℕ → Type 0
@@ -186,10 +150,7 @@ first_step false p x xs q r (inl a) = absurd a
 first_step false p x xs q r (inr a) = (
   in_there (first_of p xs) x xs a.0,
   a.1,
-  λ u m t. elim (in_cons u x xs m) [
-    | inl z ↦ absurd (subst T q (subst (λ y. T (p y)) z t))
-    | inr z ↦ a.2 u z t
-  ],
+  λ u m t. grind (arith, in_cons),
 )
 
 pub first : (p : ℕ → Bool) (K : List ℕ) → Rising K → (u : ℕ) → In u K → T (p u) → First p K (first_of p K)
@@ -205,10 +166,7 @@ Last K m = In m K × ((u : ℕ) → In u K → u ≤ m)
 
 pub last : (x : ℕ) (xs : List ℕ) → Rising (x ∷ xs) → (m : ℕ) × Last (x ∷ xs) m
 last x [] r = (x, (in_here x [], λ u m. elim (in_cons u x [] m) [ inl q ↦ omega arith | inr q ↦ absurd q ]))
-last x (y ∷ ys) r =
-    let l = last y ys (rising_tail x (y ∷ ys) r) in
-    let j = rising_head x (y ∷ ys) r l.0 l.1.0 in
-    (l.0, (in_there l.0 x (y ∷ ys) l.1.0, λ u m. elim (in_cons u x (y ∷ ys) m) [ inl q ↦ omega arith | inr q ↦ l.1.1 u q ]))
+last x (y ∷ ys) r = grind (arith, rising_head, last y ys)
 
 pub last_of : (K : List ℕ) → Rising K → (u : ℕ) → In u K → (m : ℕ) × Last K m
 last_of [] r u m = absurd m
@@ -216,20 +174,8 @@ last_of (x ∷ xs) r u m = last x xs r
 
 -- the members up to the last
 pub up_to_last : (K : List ℕ) (m : ℕ) → Rising K → Last K m → up_to m K ≡ K
-up_to_last K m r l =
-    ext (up_to m K) K (up_to_rising m K r) r (λ w h. (up_to_out m K w h).0) (λ w h. up_to_in m K w h (l.1 w h))
+up_to_last K m r l = grind (arith, ext, up_to_rising, up_to_out, up_to_in)
 
 -- the members up to a member are those below it, with it
 pub up_to_insert : (K : List ℕ) (v : ℕ) → Rising K → In v K → insert v (below v K) ≡ up_to v K
-up_to_insert K v r m =
-    ext (insert v (below v K)) (up_to v K)
-    (insert_rising v (below v K) (below_rising v K r) (λ h. let a = below_out v K v h in absurd (omega arith)))
-    (up_to_rising v K r)
-    (λ w h. elim (insert_out v (below v K) w h) [
-      | inl q ↦ up_to_in v K w (subst (λ z. In z K) (sym q) m) (omega arith)
-      | inr q ↦ let a = below_out v K w q in up_to_in v K w a.0 (omega arith)
-    ])
-    (λ w h. let a = up_to_out v K w h in elim (lt_or w v) [
-      | inl q ↦ insert_old v (below v K) w (below_in v K w a.0 q)
-      | inr q ↦ let z : v ≡ w = omega arith in subst (λ y. In y (insert v (below v K))) z (insert_new v (below v K))
-    ])
+up_to_insert K v r m = grind (arith, ext, insert_rising, below_rising, below_out, up_to_rising, insert_out, up_to_in, up_to_out, insert_old, below_in, insert_new)

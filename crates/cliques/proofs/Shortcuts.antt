@@ -1,5 +1,5 @@
 -- The test of a child that needs no completion.
-use Rattle.std.proofs.Common.{◌≡◌, ℕ, suc, ◌<◌, Bool, not, ◌&&◌, T, ltb, List, [], ◌∷◌, length, Option, sym, refl, subst, inl, inr, arith, ltb→lt, lt→ltb, T_not}
+use Rattle.std.proofs.Common.{◌≡◌, ℕ, ◌<◌, Bool, not, ◌&&◌, T, ltb, List, length, Option, sym, refl, subst, inl, inr, arith, T_not}
 use lib.Dec.{not_T}
 use Rattle.cliques.specs.Graph.{Graph, Lawful}
 use Rattle.cliques.specs.Sets.{
@@ -21,20 +21,7 @@ use Rattle.cliques.specs.Completion.{completion, partners_below, child, ChildAt,
 use Rattle.cliques.specs.Shortcuts.{completes_to, adds_none_below, is_child_by_barriers}
 use Rattle.cliques.proofs.Tests.{and_l, and_r, and_mk, dec, both_same, first_agree}
 use Rattle.cliques.proofs.Laws.{partners_both, partners_apart}
-use Rattle.cliques.proofs.Members.{
-  in_here,
-  places_in,
-  places_out,
-  every_at,
-  every_of,
-  partner_at,
-  partner_all,
-  below_in,
-  below_out,
-  insert_out,
-  insert_new,
-  insert_old,
-}
+use Rattle.cliques.proofs.Members.{places_in, places_out, every_at, every_of, partner_at, partner_all, below_in, below_out, insert_out, insert_new, insert_old}
 use Rattle.cliques.proofs.Rising.{ext, filter_rising, same_eq, eq_same}
 use Rattle.cliques.proofs.Completions.{IsCompletion, completion_is, completion_rising}
 use Rattle.cliques.proofs.Parents.{partners_below_out, partners_below_clique, partners_below_with}
@@ -75,10 +62,7 @@ module _ (g : Graph) (law : Lawful g) where
         let a = and_l (g.partners v w) (partner_of_all g w P) t in
         let b = and_r (g.partners v w) (partner_of_all g w P) t in
         let in_d : In w D = is_d.greedy w
-        (λ x xm. elim (insert_out v P x xm) [
-          | inl z ↦ subst (λ y. T (g.partners w y)) (sym z) (partners_both g law v w a)
-          | inr z ↦ partner_at g w P x b z
-        ])
+        (λ x xm. grind (arith, insert_out, partners_both, partner_at))
         (λ u um l. partner_at g w P u b (subst (λ y. In u y) q (below_in v D u um (omega arith)))) in
         partners_apart g law w (partner_at g w P w b (subst (λ y. In w y) q (below_in v D w in_d h)))))
 
@@ -89,12 +73,7 @@ module _ (g : Graph) (law : Lawful g) where
 
   -- a list with a member is not empty
   pub some_in : (L : List ℕ) → T (ltb 0 (length L)) → In (smallest L) L
-  some_in [] t = absurd (let h = ltb→lt 0 0 t in omega arith)
-  some_in (x ∷ xs) t = in_here x xs
-
-  in_some : (L : List ℕ) → In (smallest L) L → T (ltb 0 (length L))
-  in_some [] m = absurd m
-  in_some (x ∷ xs) m = lt→ltb 0 (suc (length xs)) (omega arith)
+  some_in a t = grind arith
 
   -- the child's test
   module _ (K : List ℕ) (v : ℕ) (c : MaximalClique g K) where
@@ -137,12 +116,7 @@ module _ (g : Graph) (law : Lawful g) where
         }
 
     of_child : ChildAt g K v (child g K v) → T (is_child_by_barriers g K v)
-    of_child d =
-        let m = d.touching in
-        and_mk b1 (b2 && (b3 && b4)) (not_T (has v K) d.outside)
-        (and_mk b2 (b3 && b4) (in_some N m)
-        (and_mk b3 b4 (to_completes g law K c N (partners_below_clique g law K v c.clique m) sub d.back)
-        (none_adds v N (filter_rising _ K c.clique.sorted) (partners_below_with g law K v c.clique m) low d.clean)))
+    of_child d = grind (arith, to_completes, partners_below_clique, sub, none_adds, partners_below_with, low)
 
     pub barriers_are_child : is_child_by_barriers g K v ≡ is_child g K v
     barriers_are_child =

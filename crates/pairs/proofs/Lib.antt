@@ -1,4 +1,3 @@
-pub mod Parted
 pub mod Faults
 pub mod Standing
 pub mod Pigeons

@@ -1,9 +1,8 @@
 -- One turn of the loops over a list of places.
-use Rattle.std.proofs.Common.{◌≡◌, ℕ, ◌+◌, ◌<◌, ◌≤◌, Bool, false, ◌&&◌, ltb, leb, ◌⊎◌, List, length, get_or, drop, sym, ap, ◌∙◌, ⊎_elim}
+use Rattle.std.proofs.Common.{◌≡◌, ℕ, ◌+◌, ◌<◌, ◌≤◌, Bool, false, ◌&&◌, ltb, leb, ◌⊎◌, List, length, get_or, drop, ap, ◌∙◌, ⊎_elim}
 use Rattle.std.proofs.lemmas.List.{at_drop_more}
 use Rattle.std.proofs.lemmas.Bool.{and_left, and_right, le-leb, lt-leb, le-ltb, lt-ltb}
-use Rattle.pairs.specs.Checks.{stands}
-use Rattle.pairs.specs.Lists.{list_of, named_back, rising}
+use Rattle.pairs.specs.Lists.{rising}
 
 -- an entry that is too small or no place ends the test of a rising list
 pub rising_stop : (size least : ℕ) (xs : List ℕ) (i : ℕ) → i < length xs → (get_or xs i 0 < least) ⊎ ((least ≤ get_or xs i 0) × (size ≤ get_or xs i 0)) → rising size least (drop i xs) ≡ false
@@ -21,9 +20,3 @@ rising_on size least xs i lt low high =
     at_drop_more (rising size least) xs i 0 lt
     ∙ ap (λ (b : Bool). b && (ltb (get_or xs i 0) size && rest)) (le-leb _ _ low)
     ∙ ap (λ (b : Bool). b && rest) (lt-ltb _ _ high)
-
--- whether an entry's list holds u is one turn of the test that the list is named back
-pub back_turn : (ends entries : List ℕ) (u : ℕ) (xs : List ℕ) (i : ℕ) → i < length xs → (list : List ℕ) → list ≡ list_of ends entries (get_or xs i 0) → (b : Bool) → b ≡ stands list u → named_back ends entries u (drop i xs) ≡ (b && named_back ends entries u (drop (i + 1) xs))
-back_turn ends entries u xs i lt list is b e =
-    at_drop_more (named_back ends entries u) xs i 0 lt
-    ∙ ap (λ (c : Bool). c && named_back ends entries u (drop (i + 1) xs)) (ap (λ ys. stands ys u) (sym is) ∙ sym e)

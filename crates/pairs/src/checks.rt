@@ -7,10 +7,5 @@ ghost use Rattle.pairs.specs.Checks.{stands};
 pub(crate) fn stands(list: &[u16], place: usize) -> bool
     ensures { result ≡ stands list.now place }
 {
-    for entry in list {
-        if *entry as usize == place {
-            return true;
-        }
-    }
-    false
+    list.iter().any(|&entry| entry as usize == place)
 }

@@ -37,13 +37,7 @@ fn entry_fault(size: usize, chosen: &[u16], i: usize) -> Option<Refusal>
 fn selection_fault(size: usize, chosen: &[u16]) -> Option<Refusal>
     ensures { result ≡ selection_fault size chosen.now }
 {
-    for i in 0..chosen.len() {
-        match entry_fault(size, chosen, i) {
-            Some(refusal) => return Some(refusal),
-            None => {}
-        }
-    }
-    None
+    (0..chosen.len()).find_map(|i| entry_fault(size, chosen, i))
 }
 
 impl<'a, T: PairTable> Selection<'a, T> {
@@ -55,10 +49,10 @@ impl<'a, T: PairTable> Selection<'a, T> {
         ensures chosen { IfOk result (λ s. s.chosen.now ≡ chosen.now) }
         ensures meaning { IfOk result (λ s. selected (T.PairTable.meaning s.below) s.chosen.now ≡ selected (T.PairTable.meaning below) chosen.now) }
     {
-        match selection_fault(below.size(), chosen) {
-            Some(refusal) => Err((refusal, below)),
-            None => Ok(Selection { below, chosen }),
+        if let Some(refusal) = selection_fault(below.size(), chosen) {
+            return Err((refusal, below));
         }
+        Ok(Selection { below, chosen })
     }
 
     /// Gives the table below back.
@@ -81,12 +75,11 @@ impl<T: PairTable> PairTable for Selection<'_, T> {
     }
 
     fn partners(&self, u: usize, v: usize) -> bool {
-        if u < self.chosen.len() && v < self.chosen.len() {
-            self.below
+        u < self.size()
+            && v < self.size()
+            && self
+                .below
                 .partners(self.chosen[u] as usize, self.chosen[v] as usize)
-        } else {
-            false
-        }
     }
 }
 
@@ -97,10 +90,10 @@ impl<T: Stamped> Stamped for Selection<'_, T> {
     ghost distinct = { λ s. selected_distinct (T.Stamped.stamps s.below) s.chosen.now s.apart (T.Stamped.distinct s.below) };
 
     fn stamp(&self, u: usize) -> u16 {
-        if u < self.chosen.len() {
-            self.below.stamp(self.chosen[u] as usize)
-        } else {
-            0
+        // `map_or` gets no proof, as in `PartnerLists::fault`.
+        match self.chosen.get(u) {
+            Some(&entry) => self.below.stamp(entry as usize),
+            None => 0,
         }
     }
 }

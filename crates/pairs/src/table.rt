@@ -24,12 +24,7 @@ pub trait PairTable {
     fn first_partner(&self, u: usize, w: usize) -> Option<usize>
         ensures { FirstPartner (meaning self.now) u w result }
     {
-        for v in w..self.size() {
-            if self.partners(u, v) {
-                return Some(v);
-            }
-        }
-        None
+        (w..self.size()).find(|&v| self.partners(u, v))
     }
 }
 

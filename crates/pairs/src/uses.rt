@@ -19,29 +19,25 @@ fn partners_twice<T: PairTable>(
     ensures below { result.1 ≡ below }
     ensures answer { IfSome result.0 (λ b. b ≡ (selected (selected (T.PairTable.meaning below) outer.now) inner.now).partners u v) }
 {
-    match Selection::new(below, outer) {
-        Err((_, below)) => (None, below),
-        Ok(middle) => match Selection::new(middle, inner) {
-            Err((_, middle)) => (None, middle.release()),
-            Ok(top) => {
-                let answer = top.partners(u, v);
-                (Some(answer), top.release().release())
-            }
-        },
-    }
+    let middle = match Selection::new(below, outer) {
+        Ok(middle) => middle,
+        Err((_, below)) => return (None, below),
+    };
+    let top = match Selection::new(middle, inner) {
+        Ok(top) => top,
+        Err((_, middle)) => return (None, middle.release()),
+    };
+    let answer = top.partners(u, v);
+    (Some(answer), top.release().release())
 }
 
 // The sizes of two selections that share one lent table, or `None` where a list is refused.
 fn shared_sizes<T: PairTable>(below: &T, one: &[u16], other: &[u16]) -> Option<(usize, usize)>
     ensures { IfSome result (λ s. (s.0 ≡ length one.now) × (s.1 ≡ length other.now)) }
 {
-    match Selection::new(below, one) {
-        Err(_) => None,
-        Ok(first) => match Selection::new(below, other) {
-            Err(_) => None,
-            Ok(second) => Some((first.size(), second.size())),
-        },
-    }
+    let first = Selection::new(below, one).ok()?;
+    let second = Selection::new(below, other).ok()?;
+    Some((first.size(), second.size()))
 }
 
 // Whether two places of a selection of a selection of partner lists are partners: the generic code over a lent table.

@@ -1,10 +1,6 @@
-use Rattle.std.proofs.Common.{sym, refl}
+use Rattle.std.proofs.Common.{sym, ◌∙◌}
 use Rattle.pairs.proofs.Listed.{listed}
 use Rattle.pairs.proofs.lists.PartnerLists.new.Goals as goal
 
-pub returns-in-None : goal.returns-in-None
-returns-in-None c = record {
-  refusal = c.in-None.ensures;
-  spaces = (refl, refl);
-  meaning = listed c.args.ends.now c.args.entries.now (sym c.in-None.ensures);
-}
+pub returns-clause-meaning : goal.returns-clause-meaning
+returns-clause-meaning c = listed c.args.ends.now c.args.entries.now (sym c.fault.ensures ∙ c.in_default.is)

@@ -1,5 +1,6 @@
 -- The reader's checks on index and marks are the rules on what was said.
 use Rattle.std.proofs.Common.{◌≡◌, ℕ, ◌<◌, ◌≤◌, Bool, true, false, cond, not, ◌&&◌, ◌||◌, eqb, ltb, leb, ◌⊎◌, List, [], ◌∷◌, ◌++◌, length, get_or, set, is_some, Some, None, Ok, Err, Option, Result, sym, refl, ap, ◌∙◌, subst, inl, inr, arith}
+use Rattle.std.proofs.Math.Bool.{or-false, or_comm}
 use Rattle.std.proofs.lemmas.List.{get_or-set_same, get_or-set_other, length_push, length-set}
 use Rattle.std.proofs.lemmas.Bool.{and_from, and_parts, eq-eqb, ne_eqb, eqb-true, eqb-false, leb-true, lt-leb, le-leb, ltb-true, ltb-false, or_cases, or_left, or_right}
 use Rattle.refusal.specs.declared.Reason.{Reason}
@@ -10,7 +11,7 @@ use Rattle.format.specs.Grammar.{any_of, on_card, same_pair, said_pair, said}
 use Rattle.format.specs.Rules.{below_of}
 use Rattle.format.proofs.Logic.{clash}
 use Rattle.book.specs.declared.index.IndexRecord.{IndexRecord}
-use Rattle.book.specs.declared.reader.Fault.{Fault}
+use Rattle.book.specs.declared.fault.Fault.{Fault}
 use Rattle.book.specs.Marks.{marked, toggled}
 use Rattle.book.specs.Reading.{TellsPairs}
 use Rattle.book.specs.Spaces.{stamp_at}
@@ -39,16 +40,12 @@ any_push : {X : Type 0} (p : X → Bool) (xs : List X) (x : X) → any_of p (xs 
 any_push p [] x = elim (p x) as (λ b. b || false ≡ b) [ true ↦ refl | false ↦ refl ]
 any_push p (y ∷ xs) x = elim (p y) as (λ b. b || any_of p (xs ++ x ∷ []) ≡ ((b || any_of p xs) || p x)) [ true ↦ refl | false ↦ any_push p xs x ]
 
-or_false : (a : Bool) → a || false ≡ a
-or_false true = refl
-or_false false = refl
-
 -- a member that passes, or fails, decides the longer list
 pub push_true : {X : Type 0} (p : X → Bool) (xs : List X) (x : X) → p x ≡ true → any_of p (xs ++ x ∷ []) ≡ true
 push_true p xs x h = any_push p xs x ∙ or_right (any_of p xs) (p x) h
 
 pub push_false : {X : Type 0} (p : X → Bool) (xs : List X) (x : X) → p x ≡ false → any_of p (xs ++ x ∷ []) ≡ any_of p xs
-push_false p xs x h = any_push p xs x ∙ ap (λ b. any_of p xs || b) h ∙ or_false (any_of p xs)
+push_false p xs x h = any_push p xs x ∙ ap (λ b. any_of p xs || b) h ∙ or-false (any_of p xs)
 
 pub stamp_pos : (s : ℕ) → stamp_ok s ≡ true → 0 < s
 stamp_pos s h = leb-true 1 s (and_parts _ _ h).0
@@ -128,14 +125,8 @@ module _ (cs : List Card) (es : List IndexRecord) (few : length cs ≤ 256) (k :
 
 -- ---- pairs
 
-or_swap : (a b : Bool) → (a || b) ≡ (b || a)
-or_swap true true = refl
-or_swap true false = refl
-or_swap false true = refl
-or_swap false false = refl
-
 pub said_swap : (ps : List (ℕ × ℕ)) (a b : ℕ) → said_pair ps a b ≡ said_pair ps b a
-said_swap ps a b = λ i. any_of (λ p. or_swap (eqb p.0 a && eqb p.1 b) (eqb p.0 b && eqb p.1 a) i) ps
+said_swap ps a b = λ i. any_of (λ p. or_comm (eqb p.0 a && eqb p.1 b) (eqb p.0 b && eqb p.1 a) i) ps
 
 pub same_own : (a b c d : ℕ) → ((a ≡ c) × (b ≡ d)) ⊎ ((a ≡ d) × (b ≡ c)) → same_pair c d (a, b) ≡ true
 same_own a b c d (inl h) = or_left (eqb a c && eqb b d) (eqb a d && eqb b c) (and_from _ _ (eq-eqb a c h.0) (eq-eqb b d h.1))

@@ -1,52 +1,30 @@
 -- One bit is changed, and no other.
-use Rattle.std.proofs.Common.{◌≡◌, ℕ, zero, suc, ◌+◌, ◌-◌, ◌*◌, ◌/◌, ◌%◌, ◌^◌, ◌<◌, ◌≤◌, Bool, true, false, not, eqb, List, [], ◌∷◌, length, get_or, set, replicate, sym, refl, ap, ◌∙◌, inl, inr, add-zero, add-suc, suc-mul, mul-le-mul, pow-suc, zero-add, mul-suc, arith, get_or-set_other, get_or-set_same}
-use native.Mathlib.Nat.{mul-mod_left}
-use Rattle.std.proofs.lemmas.List.{length-set}
-use lib.Bits.{bit_xor, xor_zero_r}
-use Rattle.std.proofs.lemmas.Nat.{pow_pos, pow-add, pow_below, shl-shr, xor_shr, xor_mod, div_below}
-use Rattle.std.proofs.lemmas.Bool.{cases_lt, eqb-true, eqb-false}
+use Rattle.std.proofs.Common.{◌≡◌, ℕ, zero, suc, ◌+◌, ◌-◌, ◌*◌, ◌/◌, ◌%◌, ◌^◌, ◌<◌, ◌≤◌, Bool, true, false, not, eqb, List, length, get_or, set, replicate, sym, refl, ap, ◌∙◌, add-zero, add-suc, suc-mul, mul-le-mul, mul-suc, arith, get_or-set_other, get_or-set_same}
+use Rattle.std.proofs.lemmas.List.{get_or_past, length-set}
+use lib.Bits.{bit_xor}
+use Rattle.std.proofs.lemmas.Nat.Bits.{bit_at-lt, bit_at-pow_other, bit_at-pow_same, bit_at-zero, bit_at_xor}
+use Rattle.std.proofs.lemmas.Bool.{eqb-true, eqb-false}
 use Rattle.book.specs.Marks.{bit_at, flipped, pair_number}
 
-pow_over : (d m : ℕ) → 2 ^ (d + m) / 2 ^ m ≡ 2 ^ d
-pow_over d m = ap (λ x. x / 2 ^ m) (pow-add 2 d m) ∙ shl-shr (2 ^ d) m
+-- turning a bit of a byte, and leaving the others
+turned : (b : ℕ) → b < 2 → eqb ((b + 1) % 2) 1 ≡ not (eqb b 1)
+turned zero h = refl
+turned (suc zero) h = refl
+turned (suc (suc b)) h = absurd (omega arith)
 
-pow_even : (d : ℕ) → 2 ^ suc d % 2 ≡ 0
-pow_even d = ap (λ x. x % 2) (pow-suc 2 d) ∙ mul-mod_left (2 ^ d) 2
-
--- the other bits of a power of two are 0
-pow_other : (k m : ℕ) → (k ≡ m → ⊥) → 2 ^ k / 2 ^ m % 2 ≡ 0
-pow_other k m ne = elim (cases_lt k m) [
-  | inl l ↦ (let h : 2 ^ k / 2 ^ m < 1 = div_below (2 ^ k) (2 ^ m) 1 (pow_pos m) (omega (arith, pow_below k m l)) in
-      let z : 2 ^ k / 2 ^ m ≡ 0 = omega arith in ap (λ x. x % 2) z)
-  | inr l ↦ (let e : suc (k - m - 1) + m ≡ k = omega arith in
-      ap (λ j. 2 ^ j / 2 ^ m % 2) (sym e) ∙ ap (λ x. x % 2) (pow_over (suc (k - m - 1)) m) ∙ pow_even (k - m - 1))
-]
-
-pow_own : (m : ℕ) → 2 ^ m / 2 ^ m % 2 ≡ 1
-pow_own m = ap (λ j. 2 ^ j / 2 ^ m % 2) (sym (zero-add m)) ∙ ap (λ x. x % 2) (pow_over 0 m)
-
-xor_parts : (x y m : ℕ) → bit_xor x y / 2 ^ m % 2 ≡ bit_xor (x / 2 ^ m % 2) (y / 2 ^ m % 2)
-xor_parts x y m = ap (λ z. z % 2) (xor_shr x y m) ∙ xor_mod (x / 2 ^ m) (y / 2 ^ m) 1
-
-xor_one : (b : ℕ) → b < 2 → eqb (bit_xor b 1) 1 ≡ not (eqb b 1)
-xor_one zero h = refl
-xor_one (suc zero) h = refl
-xor_one (suc (suc b)) h = absurd (omega arith)
-
-same_byte : (x k m : ℕ) → k ≡ m → eqb (bit_xor x (2 ^ k) / 2 ^ m % 2) 1 ≡ not (eqb (x / 2 ^ m % 2) 1)
-same_byte x k m e =
-    ap (λ j. eqb (bit_xor x (2 ^ j) / 2 ^ m % 2) 1) e
-    ∙ ap (λ z. eqb z 1) (xor_parts x (2 ^ m) m ∙ ap (bit_xor (x / 2 ^ m % 2)) (pow_own m))
-    ∙ xor_one (x / 2 ^ m % 2) (omega arith)
+own_bit : (x m : ℕ) → eqb (bit_xor x (2 ^ m) / 2 ^ m % 2) 1 ≡ not (eqb (x / 2 ^ m % 2) 1)
+own_bit x m = ap (λ z. eqb z 1) (bit_at_xor x (2 ^ m) m ∙ ap (λ z. (x / 2 ^ m % 2 + z) % 2) (bit_at-pow_same m)) ∙ turned (x / 2 ^ m % 2) (bit_at-lt x m)
 
 other_bit : (x k m : ℕ) → (k ≡ m → ⊥) → bit_xor x (2 ^ k) / 2 ^ m % 2 ≡ x / 2 ^ m % 2
-other_bit x k m ne = xor_parts x (2 ^ k) m ∙ ap (bit_xor (x / 2 ^ m % 2)) (pow_other k m ne) ∙ xor_zero_r (x / 2 ^ m % 2)
+other_bit x k m ne =
+    let l = bit_at-lt x m in
+    bit_at_xor x (2 ^ k) m ∙ ap (λ z. (x / 2 ^ m % 2 + z) % 2) (bit_at-pow_other k m (λ e. ne (sym e))) ∙ omega (arith, l)
 
 pub flip_own : (ms : List ℕ) (i : ℕ) → i / 8 < length ms → bit_at (flipped ms i) i ≡ not (bit_at ms i)
 unfolding bit_at flipped
 flip_own ms i h =
     let g : get_or (set ms (i / 8) (bit_xor (get_or ms (i / 8) 0) (2 ^ (i % 8)))) (i / 8) 0 ≡ bit_xor (get_or ms (i / 8) 0) (2 ^ (i % 8)) = rw get_or-set_same in
-    ap (λ x. eqb (x / 2 ^ (i % 8) % 2) 1) g ∙ same_byte (get_or ms (i / 8) 0) (i % 8) (i % 8) refl
+    ap (λ x. eqb (x / 2 ^ (i % 8) % 2) 1) g ∙ own_bit (get_or ms (i / 8) 0) (i % 8)
 
 pub flip_other : (ms : List ℕ) (i j : ℕ) → i / 8 < length ms → (i ≡ j → ⊥) → bit_at (flipped ms i) j ≡ bit_at ms j
 unfolding bit_at flipped
@@ -111,21 +89,13 @@ number_below u v h k =
     let m : v * (v - 1) ≤ 255 * 254 = mul-le-mul p q in
     omega (arith, m)
 
-zero_bit : (d : ℕ) → 0 < d → eqb (0 / d % 2) 1 ≡ false
-zero_bit d h = let e : 0 / d < 1 = div_below 0 d 1 h (omega arith) in let z : 0 / d ≡ 0 = omega arith in ap (λ x. eqb (x % 2) 1) z
-
 pub bit_beyond : (ms : List ℕ) (i : ℕ) → length ms ≤ i / 8 → bit_at ms i ≡ false
 unfolding bit_at
-bit_beyond ms i h = ap (λ x. eqb (x / 2 ^ (i % 8) % 2) 1) (past ms (i / 8) h) ∙ zero_bit (2 ^ (i % 8)) (pow_pos (i % 8))
-  where
-    past : (xs : List ℕ) (k : ℕ) → length xs ≤ k → get_or xs k 0 ≡ 0
-    past [] k h = refl
-    past (x ∷ xs) zero h = absurd (omega arith)
-    past (x ∷ xs) (suc k) h = past xs k (omega arith)
+bit_beyond ms i h = ap (λ x. eqb (x / 2 ^ (i % 8) % 2) 1) (get_or_past ms (i / 8) 0 h) ∙ ap (λ z. eqb z 1) (bit_at-zero (i % 8))
 
 pub none_set : (i : ℕ) → bit_at (replicate 4080 0) i ≡ false
 unfolding bit_at
-none_set i = ap (λ x. eqb (x / 2 ^ (i % 8) % 2) 1) (zeros 4080 (i / 8)) ∙ zero_bit (2 ^ (i % 8)) (pow_pos (i % 8))
+none_set i = ap (λ x. eqb (x / 2 ^ (i % 8) % 2) 1) (zeros 4080 (i / 8)) ∙ ap (λ z. eqb z 1) (bit_at-zero (i % 8))
   where
     zeros : (n k : ℕ) → ◌≡◌ {A = ℕ} (get_or (replicate n 0) k 0) 0
     zeros zero k = refl

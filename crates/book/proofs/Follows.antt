@@ -1,12 +1,11 @@
 -- A stand of the reader represents a draft, and a step keeps that.
-use Rattle.std.proofs.Common.{◌≡◌, ℕ, ◌-◌, ◌≤◌, Bool, true, false, cond, not, List, [], ◌∷◌, ◌++◌, length, replicate, is_some, Some, None, Ok, Err, Result, unwrap_or, sym, refl, ap, subst, arith}
+use Rattle.std.proofs.Common.{◌≡◌, ℕ, ◌-◌, ◌≤◌, Bool, true, false, cond, not, List, [], ◌∷◌, ◌++◌, length, replicate, is_some, Some, None, Ok, Err, Result, unwrap_or, sym, refl, ap, subst, arith, rules}
 use Rattle.std.proofs.lemmas.List.FromFn.{fill_by_all}
 use Rattle.std.proofs.lemmas.List.{get_or-replicate}
 use Rattle.std.proofs.lemmas.Bool.{and_parts}
 use Rattle.refusal.specs.declared.Reason.{Reason}
 use Rattle.refusal.specs.declared.Reason.TheVariants.{Truncated, UnknownKind, OutOfSection, OutOfRange}
 use Rattle.format.specs.declared.card.Card.{Card}
-use Rattle.format.specs.declared.card.Rule.{Rule}
 use Rattle.format.specs.declared.records.Record.{Record}
 use Rattle.format.specs.declared.records.Record.TheVariants.{Card as CardRecord, Rule as RuleRecord, Pair as PairRecord, Withdrawn as WithdrawnRecord, End as EndRecord}
 use Rattle.format.specs.declared.records.Section.{Section}
@@ -14,10 +13,9 @@ use Rattle.format.specs.declared.records.Section.TheVariants.{Cards, Ruled, Pair
 use Rattle.format.specs.Records.{cut_short, fields_ok, kind_of, length_of_kind, record_of, unknown_kind}
 use Rattle.format.specs.Sections.{is_done, next}
 use Rattle.format.specs.Rules.{Draft, blank, byte_rules, first_broken, own_rules, record_rules, taken}
-use Rattle.format.proofs.Logic.{clash}
 use Rattle.book.specs.declared.index.IndexRecord.{IndexRecord}
 use Rattle.book.specs.Reading.{TellsPairs, withdrawn_marks}
-use Rattle.book.specs.Stands.{Stand, carded, fault_of, pair_marked, placed, placed_in, step_of, withdrawing}
+use Rattle.book.specs.Stands.{Stand, carded, fault_of, fresh, pair_marked, placed, placed_in, step_of, withdrawing}
 use Rattle.book.proofs.Agrees.{Agrees, Carded, Gone, agrees_by, agrees_map, card_agrees, pair_agrees, withdrawn_agrees}
 use Rattle.book.proofs.Pairs.{none_marked}
 use Rattle.book.proofs.Places.{Knows, Named}
@@ -54,12 +52,12 @@ pub record Represents (d : Draft) (s : Stand) : Type 0 where
 none_gone : Gone [] [] (replicate 256 false)
 none_gone = record { whole = refl; places = λ u l. get_or-replicate 256 u false false l }
 
-pub starts : (es : List IndexRecord) → es ≡ [] → Represents blank (standing blank es (replicate 4080 0) (replicate 256 false))
-starts es e = record {
+pub starts : (s : Stand) → s ≡ fresh → Represents blank s
+starts s e = record {
   index = [];
   marks = replicate 4080 0;
   withdrawn = replicate 256 false;
-  is = ap (λ v. standing blank v (replicate 4080 0) (replicate 256 false)) e;
+  is = e;
   serves = record { few = omega arith; knows = λ s. refl; named = λ u h. absurd (omega arith); tells = record { whole = refl; pairs = λ u v l m. none_marked u v }; gone = none_gone; early = (refl, refl) };
 }
 
@@ -67,40 +65,7 @@ starts es e = record {
 
 -- a card stands only among cards
 card_early : (s : Section) (c : Card) (ps : List (ℕ × ℕ)) (ws : List ℕ) → is_some (next s (CardRecord c)) ≡ true → Early s ps ws → (ps ≡ []) × (ws ≡ []) × Early (unwrap_or (next s (CardRecord c)) s) ps ws
-card_early Cards c ps ws a e = (e.0, e.1, e)
-card_early Ruled c ps ws a e = clash (sym a)
-card_early Paired c ps ws a e = clash (sym a)
-card_early Withdrawing c ps ws a e = clash (sym a)
-card_early Done c ps ws a e = clash (sym a)
-
--- every other record leaves them
-rule_early : (s : Section) (r : Rule) (ps : List (ℕ × ℕ)) (ws : List ℕ) → is_some (next s (RuleRecord r)) ≡ true → Early (unwrap_or (next s (RuleRecord r)) s) ps ws
-rule_early Cards r ps ws a = tt
-rule_early Ruled r ps ws a = tt
-rule_early Paired r ps ws a = tt
-rule_early Withdrawing r ps ws a = tt
-rule_early Done r ps ws a = tt
-
-pair_early : (s : Section) (a b : ℕ) (ps : List (ℕ × ℕ)) (ws : List ℕ) → is_some (next s (PairRecord a b)) ≡ true → Early (unwrap_or (next s (PairRecord a b)) s) ps ws
-pair_early Cards a b ps ws h = tt
-pair_early Ruled a b ps ws h = tt
-pair_early Paired a b ps ws h = tt
-pair_early Withdrawing a b ps ws h = tt
-pair_early Done a b ps ws h = tt
-
-withdrawn_early : (s : Section) (x : ℕ) (ps : List (ℕ × ℕ)) (ws : List ℕ) → is_some (next s (WithdrawnRecord x)) ≡ true → Early (unwrap_or (next s (WithdrawnRecord x)) s) ps ws
-withdrawn_early Cards x ps ws h = tt
-withdrawn_early Ruled x ps ws h = tt
-withdrawn_early Paired x ps ws h = tt
-withdrawn_early Withdrawing x ps ws h = tt
-withdrawn_early Done x ps ws h = tt
-
-end_early : (s : Section) (ps : List (ℕ × ℕ)) (ws : List ℕ) → is_some (next s EndRecord) ≡ true → Early (unwrap_or (next s EndRecord) s) ps ws
-end_early Cards ps ws h = tt
-end_early Ruled ps ws h = tt
-end_early Paired ps ws h = tt
-end_early Withdrawing ps ws h = tt
-end_early Done ps ws h = tt
+card_early s c ps ws a e = search rules
 
 -- ---- one record
 
@@ -128,7 +93,7 @@ module _ (d : Draft) (es : List IndexRecord) (ms : List ℕ) (ws : List Bool) (v
     marks = ms;
     withdrawn = ws;
     is = refl;
-    serves = record { few = v.few; knows = v.knows; named = v.named; tells = v.tells; gone = v.gone; early = rule_early d.section r d.pairs d.withdrawn a };
+    serves = record { few = v.few; knows = v.knows; named = v.named; tells = v.tells; gone = v.gone; early = search rules };
   }
   own (PairRecord a b) h f =
       let g = and_parts _ _ f in
@@ -137,7 +102,7 @@ module _ (d : Draft) (es : List IndexRecord) (ms : List ℕ) (ws : List Bool) (v
         marks = ms';
         withdrawn = ws;
         is = refl;
-        serves = record { few = v.few; knows = v.knows; named = v.named; tells = t; gone = v.gone; early = pair_early d.section a b _ d.withdrawn h };
+        serves = record { few = v.few; knows = v.knows; named = v.named; tells = t; gone = v.gone; early = search rules };
       })
       (pair_agrees d.cards es v.few v.knows v.named d.pairs ms a b v.tells g.0 g.1)
   own (WithdrawnRecord s) h f = agrees_map {P = Gone d.cards (d.withdrawn ++ s ∷ [])} (Represents (taken d (WithdrawnRecord s))) _ (withdrawing es ws s) (first_broken (own_rules d (WithdrawnRecord s))) (λ ws' t. record {
@@ -145,7 +110,7 @@ module _ (d : Draft) (es : List IndexRecord) (ms : List ℕ) (ws : List Bool) (v
     marks = ms;
     withdrawn = ws';
     is = refl;
-    serves = record { few = v.few; knows = v.knows; named = v.named; tells = v.tells; gone = t; early = withdrawn_early d.section s d.pairs _ h };
+    serves = record { few = v.few; knows = v.knows; named = v.named; tells = v.tells; gone = t; early = search rules };
   })
       (withdrawn_agrees d.cards es v.few v.knows v.named d.withdrawn ws s v.gone f)
   own EndRecord h f = record {
@@ -153,7 +118,7 @@ module _ (d : Draft) (es : List IndexRecord) (ms : List ℕ) (ws : List Bool) (v
     marks = ms;
     withdrawn = ws;
     is = refl;
-    serves = record { few = v.few; knows = v.knows; named = v.named; tells = v.tells; gone = v.gone; early = end_early d.section d.pairs d.withdrawn h };
+    serves = record { few = v.few; knows = v.knows; named = v.named; tells = v.tells; gone = v.gone; early = search rules };
   }
 
   placed_agrees : (r : Record) → Agrees (Represents (taken d r)) (placed (standing d es ms ws) r) (first_broken (record_rules d r))

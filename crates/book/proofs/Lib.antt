@@ -1,5 +1,4 @@
 pub mod Flips
-pub mod Carded
 pub mod Pairs
 pub mod Places
 pub mod Agrees

@@ -5,11 +5,11 @@ use Rattle.std.proofs.lemmas.Bool.{cases_lt, eqb-false, eqb-true, lt-ltb, le-ltb
 use Rattle.book.specs.Marks.{bit_at, bit_of, marked, pair_number, tells, toggled}
 use Rattle.book.proofs.Flips.{flip_own, flip_other, number_inj, number_below, length_flipped, none_set}
 
-bit_lt : (u v : ℕ) → u < v → bit_of u v ≡ pair_number u v
+pub bit_lt : (u v : ℕ) → u < v → bit_of u v ≡ pair_number u v
 unfolding bit_of
 bit_lt u v h = rw (lt-ltb u v h)
 
-bit_gt : (u v : ℕ) → v < u → bit_of u v ≡ pair_number v u
+pub bit_gt : (u v : ℕ) → v < u → bit_of u v ≡ pair_number v u
 unfolding bit_of
 bit_gt u v h = let l : v ≤ u = omega arith in rw (le-ltb u v l)
 

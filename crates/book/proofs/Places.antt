@@ -1,14 +1,15 @@
 -- Stamps and places: the index finds the place of a stamp's card.
-use Rattle.std.proofs.Common.{◌≡◌, ℕ, suc, ◌+◌, ◌-◌, ◌<◌, ◌≤◌, Bool, true, false, cond, ◌&&◌, ◌||◌, eqb, leb, List, [], ◌∷◌, ◌++◌, length, is_some, Some, None, Ok, Err, Option, Result, sym, refl, ap, ◌∙◌, arith}
+use Rattle.std.proofs.Common.{◌≡◌, ℕ, suc, ◌+◌, ◌-◌, ◌<◌, ◌≤◌, Bool, true, false, cond, ◌||◌, eqb, leb, List, [], ◌∷◌, ◌++◌, length, is_some, Some, None, Ok, Err, Option, Result, sym, refl, ap, ◌∙◌, arith}
 use Rattle.std.proofs.lemmas.List.{get_or_append_left, get_or_past, get_or_push, length_push}
-use Rattle.std.proofs.lemmas.Bool.{eq-eqb, ne_eqb, eqb-true, eqb-false, leb-true, leb-false, le-leb}
+use Rattle.std.proofs.lemmas.Bool.Decides.{nat_tests}
+use Rattle.std.proofs.lemmas.Bool.{eq-eqb, ne_eqb, eqb-true, eqb-false, leb-true, leb-false}
 use Rattle.refusal.specs.declared.Reason.TheVariants.{UnknownStamp}
 use Rattle.sorted.specs.Keyed.{first_of, inserted, of_key, tie}
 use Rattle.format.specs.declared.card.Card.{Card}
 use Rattle.format.specs.Grammar.{on_card}
-use Rattle.format.proofs.Logic.{clash, err_ok, some_none}
+use Rattle.format.proofs.Logic.{err_ok, some_none}
 use Rattle.book.specs.declared.index.IndexRecord.{IndexRecord}
-use Rattle.book.specs.declared.reader.Fault.{Fault}
+use Rattle.book.specs.declared.fault.Fault.{Fault}
 use Rattle.book.specs.Spaces.{no_card, stamp_at}
 use Rattle.book.specs.Stands.{fault_of, filed, indexed, located, stamp_in}
 
@@ -127,7 +128,7 @@ knows_some cs es s k = go (indexed es s) (place_of cs s) (k s)
 
 pub none_from : {X : Type 0} (o : Option X) → is_some o ≡ false → o ≡ None
 none_from None e = refl
-none_from (Some x) e = clash e
+none_from (Some x) e = cc
 
 -- a record that is inserted is found, and the others as before
 module _ {X K : Type 0} (p : X → Bool) (upto : K → K → Bool) (key : X → K) (x : X) where
@@ -146,15 +147,10 @@ module _ {X K : Type 0} (p : X → Bool) (upto : K → K → Bool) (key : X → 
           [ true ↦ ap (λ b. cond b (Some y) (first_of p (inserted upto key x ys))) t ∙ more e | false ↦ rw h ]
 
 tie_same : (a b : ℕ) → a ≡ b → tie leb a b ≡ true
-tie_same a b e = let p : leb a b ≡ true = le-leb _ _ (omega arith) in let q : leb b a ≡ true = le-leb _ _ (omega arith) in rw (p, q)
+tie_same a b e = grind (arith, nat_tests)
 
 tie_apart : (a b : ℕ) → (a ≡ b → ⊥) → tie leb a b ≡ false
-tie_apart a b ne = go (leb a b) refl (leb b a) refl
-  where
-    go : (x : Bool) → leb a b ≡ x → (y : Bool) → leb b a ≡ y → x && y ≡ false
-    go true p true q = absurd (ne (omega (arith, leb-true a b p, leb-true b a q)))
-    go true p false q = refl
-    go false p y q = refl
+tie_apart a b ne = grind (arith, nat_tests)
 
 pub knows_push : (cs : List Card) (es : List IndexRecord) (c : Card) → Knows cs es → place_of cs c.stamp ≡ None → Knows (cs ++ c ∷ []) (filed es c.stamp (length cs))
 knows_push cs es c k e s = go (eqb c.stamp s) refl

@@ -1,23 +1,20 @@
 -- The turns of the reader's loop, and what is held at its end.
-use Rattle.std.proofs.Common.{◌≡◌, ℕ, ◌+◌, ◌-◌, ◌<◌, ◌≤◌, false, cond, List, ◌++◌, length, take, drop, replicate, is_ok, Some, None, Ok, Err, Option, Result, sym, refl, ap, ◌∙◌, subst, arith}
+use Rattle.std.proofs.Common.{◌≡◌, ℕ, ◌+◌, ◌-◌, ◌<◌, ◌≤◌, cond, List, ◌++◌, length, take, drop, replicate, Some, None, Ok, Err, Option, Result, sym, refl, ap, ◌∙◌, subst, arith}
 use Rattle.std.proofs.lemmas.List.{drop_all, drop-drop, drop-replicate, length-drop, length-take-le, take-append-drop}
 use Rattle.refusal.specs.Refusals.{refused_over}
 use Rattle.refusal.specs.declared.Layer.TheVariants.{Book as BookLayer}
 use Rattle.refusal.specs.declared.Reason.{Reason}
 use Rattle.refusal.specs.declared.Reason.TheVariants.{Truncated}
 use Rattle.refusal.specs.declared.Refusal.{Refusal}
-use Rattle.format.specs.declared.card.Card.{Card}
 use Rattle.format.specs.Records.{kind_of, length_of_kind, record_of}
 use Rattle.format.specs.Sections.{is_done}
 use Rattle.format.specs.Rules.{Draft, below_of, byte_rules, first_broken, refused_at, run, taken}
-use Rattle.format.proofs.Logic.{clash}
 use Rattle.format.proofs.Runs.{run_end, run_halt, run_step, takes}
-use Rattle.book.specs.declared.index.IndexRecord.{IndexRecord}
-use Rattle.book.specs.declared.reader.Fault.{Fault}
+use Rattle.book.specs.declared.fault.Fault.{Fault}
 use Rattle.book.specs.declared.reader.Reader.{Reader}
 use Rattle.book.specs.Reading.{Finds, TellsPairs}
 use Rattle.book.specs.Spaces.{no_card}
-use Rattle.book.specs.Stands.{Stand, fault_of, stand_of, step_of}
+use Rattle.book.specs.Stands.{GoesOn, Stand, fault_of, stand_of, step_of}
 use Rattle.book.proofs.Agrees.{Agrees}
 use Rattle.book.proofs.Follows.{Represents, Stepped, gone_is, step_agrees}
 
@@ -71,15 +68,16 @@ pub section_is : (d : Draft) (s : Stand) → Represents d s → d.section ≡ s.
 section_is d s v = sym (ap (λ t. t.section) v.is)
 
 -- at the end of the book the spaces hold the draft
-pub finds : (d : Draft) (r : Reader) (cs : List Card) (es : List IndexRecord) (ms : List ℕ) → Represents d (stand_of r cs es ms) → length cs ≡ 256 → r.count ≤ 256
-    → drop r.count cs ≡ drop r.count (replicate 256 no_card) → Finds (Ok d) (Ok tt) r cs ms
-finds d r cs es ms v l c e =
-    let cards : take r.count cs ≡ d.cards = ap (λ t. t.cards) v.is in
-    let n : r.count ≡ length d.cards = sym (length-take-le r.count cs (omega arith)) ∙ ap length cards in (
-      refl,
-      n,
-      (λ i. record { rule = (v.is i).rule; withdrawn = (ap (λ t. t.withdrawn) v.is ∙ gone_is d v.withdrawn v.serves.gone) i }),
-      sym (take-append-drop r.count cs) ∙ (λ i. cards i ++ (e ∙ drop-replicate r.count 256 no_card) i) ∙ ap (λ m. d.cards ++ replicate (256 - m) no_card) n,
+pub finds : (d : Draft) (r : Reader) → Represents d (stand_of r) → length r.cards.now ≡ 256 → r.index.now.records.count ≤ 256
+    → drop r.index.now.records.count r.cards.now ≡ drop r.index.now.records.count (replicate 256 no_card)
+    → Finds (Ok d) (Ok (record { count = r.index.now.records.count; notes = r.notes })) r.cards.now r.marks.now
+finds d r v l c e =
+    let k = r.index.now.records.count in
+    let cs = r.cards.now in
+    let cards : take k cs ≡ d.cards = ap (λ t. t.cards) v.is in
+    let n : k ≡ length d.cards = sym (length-take-le k cs (omega arith)) ∙ ap length cards in (
+      (λ i. Ok (record { count = n i; notes = record { rule = (v.is i).rule; withdrawn = (ap (λ t. t.withdrawn) v.is ∙ gone_is d v.withdrawn v.serves.gone) i } })),
+      sym (take-append-drop k cs) ∙ (λ i. cards i ++ (e ∙ drop-replicate k 256 no_card) i) ∙ ap (λ m. d.cards ++ replicate (256 - m) no_card) n,
       subst (TellsPairs d.cards d.pairs) (sym (ap (λ t. t.marks) v.is)) v.serves.tells,
     )
 
@@ -89,7 +87,15 @@ drop_further m n xs ys l e =
     let k : m + (n - m) ≡ n = omega arith in
     ap (λ j. drop j xs) (sym k) ∙ sym (drop-drop (n - m) m xs) ∙ ap (drop (n - m)) e ∙ drop-drop (n - m) m ys ∙ ap (λ j. drop j ys) k
 
--- a refusal says nothing of the reader and the spaces
-pub finds_err : (q : Result Draft Refusal) (r : Result (Unit {0}) Refusal) (a b : Reader) (cs ds : List Card) (ms ns : List ℕ) → is_ok r ≡ false → Finds q r a cs ms → Finds q r b ds ns
-finds_err (Ok d) r a b cs ds ms ns e f = clash (sym (ap is_ok f.0) ∙ e)
-finds_err (Err w) r a b cs ds ms ns e f = f
+-- a reader that has taken in nothing, and one that goes on twice
+pub goes_same : (r : Reader) → GoesOn r r
+goes_same r = record { cards = refl; marks = refl; whole = refl; more = omega arith; behind = refl }
+
+pub goes_further : (r s t : Reader) → GoesOn r s → GoesOn s t → GoesOn r t
+goes_further r s t a b = record {
+  cards = b.cards ∙ a.cards;
+  marks = b.marks ∙ a.marks;
+  whole = b.whole ∙ a.whole;
+  more = omega arith;
+  behind = b.behind ∙ drop_further _ _ _ _ b.more a.behind;
+}

@@ -11,7 +11,6 @@ use Rattle.format.specs.Rules.{Draft, read_book}
 use Rattle.format.specs.Theorems.{FirstFault, pairs_in, rule_in}
 use Rattle.book.specs.declared.index.IndexRecord.{IndexRecord}
 use Rattle.book.specs.declared.open.OpenBook.{OpenBook}
-use Rattle.book.specs.declared.reader.Reader.{Reader}
 use Rattle.book.specs.Marks.{marked}
 use Rattle.book.specs.Spaces.{no_card, no_index, stamp_at}
 
@@ -67,11 +66,10 @@ IndexAfter (untouched e) es es' = es' ≡ es
 IndexAfter (cleared e) es es' = es' ≡ replicate 256 no_index ++ drop 256 es
 IndexAfter (filled d) es es' = (length es' ≡ length es) × (drop 256 es' ≡ drop 256 es)
 
--- What the reader and spaces of exactly the lengths asked for hold after the records.
-abbrev pub Finds : Result Draft Refusal → Result (Unit {0}) Refusal → Reader → List Card → List ℕ → Type 0
-Finds (Ok d) r reader cs ms = (r ≡ Ok tt) × (reader.count ≡ length d.cards) × (reader.notes ≡ (book_of d).notes)
-    × (cs ≡ d.cards ++ replicate (256 - length d.cards) no_card) × TellsPairs d.cards d.pairs ms
-Finds (Err e) r reader cs ms = r ≡ Err e
+-- What a reading of the records answers, and what spaces of exactly the lengths asked for hold after it.
+abbrev pub Finds : Result Draft Refusal → Result OpenBook Refusal → List Card → List ℕ → Type 0
+Finds (Ok d) r cs ms = (r ≡ Ok (book_of d)) × (cs ≡ d.cards ++ replicate (256 - length d.cards) no_card) × TellsPairs d.cards d.pairs ms
+Finds (Err e) r cs ms = r ≡ Err e
 
 -- An open book and its spaces hold what the contents say.
 pub record Holds (b : Contents) (o : OpenBook) (cs : List Card) (ms : List ℕ) : Type 0 where

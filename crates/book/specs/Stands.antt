@@ -1,8 +1,9 @@
 -- One step of the reader, on what it keeps: the index in place of a search among the cards, marks in place of lists.
-use Rattle.std.specs.Prelude.{ℕ, Bool, true, false, cond, List, [], ◌∷◌, ◌++◌, length, take, replicate, is_some, Some, None, Ok, Err, Option, Result, ◌==◌, nat_le, nat_lt, slice_index_or, slice_set}
+use Rattle.std.specs.Prelude.{◌≡◌, ℕ, ◌≤◌, Bool, true, false, cond, List, [], ◌∷◌, ◌++◌, length, take, drop, replicate, is_some, Some, None, Ok, Err, Option, Result, ◌==◌, nat_le, nat_lt, slice_index_or, slice_set}
 use Rattle.std.specs.Option.{unwrap_or}
 use Rattle.refusal.specs.declared.Reason.{Reason}
 use Rattle.refusal.specs.declared.Reason.TheVariants.{OutOfSection, OutOfRange, DuplicateStamp, UnknownStamp, SelfPair, Repeated, TooMany}
+use Rattle.sorted.specs.Held.{held}
 use Rattle.sorted.specs.Keyed.{first_of, inserted, of_key}
 use Rattle.format.specs.declared.card.Card.{Card}
 use Rattle.format.specs.declared.card.Rule.{Rule}
@@ -14,7 +15,7 @@ use Rattle.format.specs.Records.{fields_ok, record_in}
 use Rattle.format.specs.Sections.{is_done, next}
 use Rattle.book.specs.declared.index.IndexRecord.{IndexRecord}
 use Rattle.book.specs.declared.open.Notes.{Notes}
-use Rattle.book.specs.declared.reader.Fault.{Fault}
+use Rattle.book.specs.declared.fault.Fault.{Fault}
 use Rattle.book.specs.declared.reader.Reader.{Reader}
 use Rattle.book.specs.Marks.{marked, toggled}
 
@@ -23,10 +24,6 @@ fault_of why below = record { why = why; below = below }
 
 abbrev pub no_notes : Notes
 no_notes = record { rule = None; withdrawn = replicate 256 false }
-
--- a reader that has read nothing
-abbrev pub fresh : Reader
-fresh = record { section = Cards; count = 0; notes = no_notes }
 
 -- what the reader and the spaces hold
 pub record Stand : Type 0 where
@@ -37,8 +34,20 @@ pub record Stand : Type 0 where
   pub marks : List ℕ
   pub withdrawn : List Bool
 
-abbrev pub stand_of : Reader → List Card → List IndexRecord → List ℕ → Stand
-stand_of r cs es ms = record { section = r.section; rule = r.notes.rule; cards = take r.count cs; index = es; marks = ms; withdrawn = r.notes.withdrawn }
+abbrev pub stand_of : Reader → Stand
+stand_of r = record { section = r.section; rule = r.notes.rule; cards = take r.index.now.records.count r.cards.now; index = held r.index.now.records; marks = r.marks.now; withdrawn = r.notes.withdrawn }
+
+-- a reader that has read nothing, over spaces that are clear
+abbrev pub fresh : Stand
+fresh = record { section = Cards; rule = no_notes.rule; cards = []; index = []; marks = replicate 4080 0; withdrawn = no_notes.withdrawn }
+
+-- the second reader has the spaces of the first, holds no fewer cards, and leaves the space behind these as it was
+pub record GoesOn (r r' : Reader) : Type 0 where
+  pub cards : r'.cards.ghost_name ≡ r.cards.ghost_name
+  pub marks : r'.marks.ghost_name ≡ r.marks.ghost_name
+  pub whole : length r'.cards.now ≡ length r.cards.now
+  pub more : r.index.now.records.count ≤ r'.index.now.records.count
+  pub behind : drop r'.index.now.records.count r'.cards.now ≡ drop r'.index.now.records.count r.cards.now
 
 -- an answer with what is then held
 abbrev pub told : {X : Type 0} → Result (Unit {0}) Fault → X → Result X Fault
@@ -89,7 +98,7 @@ entering (Some s) = Ok tt
 entering None = Err (fault_of OutOfSection None)
 
 abbrev pub entered : Reader → Record → Reader
-entered r i = record { section = unwrap_or (next r.section i) r.section; count = r.count; notes = r.notes }
+entered r i = record r { section = unwrap_or (next r.section i) r.section }
 
 -- the stand with a record taken in
 abbrev pub kept : Stand → Record → Option Rule → List Card → List IndexRecord → List ℕ → List Bool → Stand

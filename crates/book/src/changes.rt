@@ -5,6 +5,7 @@ ghost use Rattle.std.specs.Prelude.{◌≡◌, ◌<◌, ◌≤◌, true, false, 
 
 use crate::marks::{is_marked, toggle};
 use crate::open::OpenBook;
+use crate::sizes::{CARDS, MARK_BYTES};
 use format::Card;
 use refusal::{Layer, Reason, Refusal};
 
@@ -13,7 +14,7 @@ pub fn short_spaces(cards: &[Card], marks: &[u8]) -> bool
     ensures test { result ≡ short_spaces (length cards.now) (length marks.now) }
     ensures enough { result ≡ false → (256 ≤ length cards.now) × (4080 ≤ length marks.now) }
 {
-    cards.len() < 256 || marks.len() < 4080
+    cards.len() < CARDS || marks.len() < MARK_BYTES
 }
 
 fn refused(reason: Reason) -> Result<(), Refusal>
@@ -22,16 +23,27 @@ fn refused(reason: Reason) -> Result<(), Refusal>
     Err(Refusal::new(reason, Layer::Book, 0))
 }
 
+// Why a change that is made already is refused: the pair or the withdrawal is there, or it is not.
+fn made_already(there: bool) -> Reason
+    ensures { result ≡ (if there then Reason.Repeated else Reason.Missing) }
+{
+    if there {
+        Reason::Repeated
+    } else {
+        Reason::Missing
+    }
+}
+
 impl OpenBook {
     // Whether there is no card at the place.
     fn beyond(&self, place: usize) -> bool
         ensures test { result ≡ beyond self.now place }
         ensures small { result ≡ false → place < 256 }
     {
-        place >= self.count || place >= 256
+        place >= self.count || place >= CARDS
     }
 
-    // Sets the mark of a pair, or strikes it.
+    // Sets the mark of a pair, or strikes it. What the mark is to be is a bool, as the mark is: the two are compared.
     fn change_pair(
         &self,
         cards: &[Card],
@@ -56,11 +68,7 @@ impl OpenBook {
             return refused(Reason::SelfPair);
         }
         if is_marked(marks, u, v) == add {
-            return refused(if add {
-                Reason::Repeated
-            } else {
-                Reason::Missing
-            });
+            return refused(made_already(add));
         }
         toggle(marks, u, v);
         Ok(())
@@ -100,7 +108,7 @@ impl OpenBook {
         self.change_pair(cards, marks, u, v, false)
     }
 
-    // Withdraws a roll, or takes it back.
+    // Withdraws a roll, or takes it back. What the mark is to be is a bool, as the mark is: the two are compared.
     fn change_roll(
         &mut self,
         cards: &[Card],
@@ -118,11 +126,7 @@ impl OpenBook {
             return refused(Reason::BadList);
         }
         if self.notes.withdrawn[place] == gone {
-            return refused(if gone {
-                Reason::Repeated
-            } else {
-                Reason::Missing
-            });
+            return refused(made_already(gone));
         }
         self.notes.withdrawn[place] = gone;
         Ok(())
@@ -141,8 +145,8 @@ impl OpenBook {
 
     /// Takes the withdrawn roll at a place back.
     ///
-    /// Refused are spaces that are too short, a place without a card, and a roll that is not withdrawn; a refusal changes
-    /// nothing.
+    /// Refused are spaces that are too short, a place without a card, and a roll that is not withdrawn; a refusal
+    /// changes nothing.
     pub fn reinstate(&mut self, cards: &[Card], marks: &[u8], place: usize) -> Result<(), Refusal>
         ensures answer { result ≡ answering (roll_fault self.old (length cards.now) (length marks.now) place false) }
         ensures book { self.new ≡ (if is_ok result then with_roll self.old place false else self.old) }

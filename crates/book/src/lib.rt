@@ -2,14 +2,16 @@
 #![tactic(auto)]
 
 mod changes;
+mod fault;
 mod index;
 mod marks;
 mod open;
 mod reader;
-mod spaces;
+mod reading;
+mod sizes;
 
 pub use changes::short_spaces;
 pub use index::IndexRecord;
 pub use marks::is_marked;
 pub use open::{Notes, OpenBook};
-pub use reader::read;
+pub use reading::read;

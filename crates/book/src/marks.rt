@@ -3,26 +3,28 @@
 ghost use Rattle.std.specs.Prelude.{◌≡◌, ◌/◌, ◌<◌, ◌≤◌, length, ◌≢◌};
 ghost use Rattle.book.specs.Marks.{bit_at, bit_of, flipped, tells, toggled};
 
-// the bit that tells the pair of two places
+use crate::sizes::CARDS;
+
+// The bit that tells the pair of two places.
 fn pair_bit(u: usize, v: usize) -> usize
-    requires { (u < 256) × ((v < 256) × ((u ≢ v))) }
+    requires first { u < 256 }
+    requires second { v < 256 }
+    requires apart { u ≢ v }
     ensures bit { result ≡ bit_of u v }
     ensures within { result / 8 < 4080 }
 {
-    if u < v {
-        v * (v - 1) / 2 + u
-    } else {
-        u * (u - 1) / 2 + v
-    }
+    let (low, high) = if u < v { (u, v) } else { (v, u) };
+    high * (high - 1) / 2 + low
 }
 
+// Whether a bit is set; none is behind the marks.
 fn is_set(marks: &[u8], bit: usize) -> bool
-    requires { bit / 8 < length marks.now }
     ensures { result ≡ bit_at marks.now bit }
 {
-    (marks[bit / 8] >> (bit % 8)) % 2 == 1
+    bit / 8 < marks.len() && (marks[bit / 8] >> (bit % 8)) % 2 == 1
 }
 
+// Turns a bit.
 fn flip(marks: &mut [u8], bit: usize)
     requires { bit / 8 < length marks.old }
     ensures { marks.new ≡ flipped marks.old bit }
@@ -35,21 +37,15 @@ fn flip(marks: &mut [u8], bit: usize)
 pub fn is_marked(marks: &[u8], u: usize, v: usize) -> bool
     ensures { result ≡ tells marks.now u v }
 {
-    if u < 256 && v < 256 && u != v {
-        let bit = pair_bit(u, v);
-        if bit / 8 < marks.len() {
-            is_set(marks, bit)
-        } else {
-            false
-        }
-    } else {
-        false
-    }
+    u < CARDS && v < CARDS && u != v && is_set(marks, pair_bit(u, v))
 }
 
 // Turns the mark of two places: partners are none then, and others are.
 pub(crate) fn toggle(marks: &mut [u8], u: usize, v: usize)
-    requires { (u < 256) × ((v < 256) × (((u ≢ v)) × (4080 ≤ length marks.old))) }
+    requires first { u < 256 }
+    requires second { v < 256 }
+    requires apart { u ≢ v }
+    requires whole { 4080 ≤ length marks.old }
     ensures { marks.new ≡ toggled marks.old u v }
 {
     flip(marks, pair_bit(u, v));

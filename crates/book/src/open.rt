@@ -2,17 +2,26 @@
 
 ghost use Rattle.std.specs.Prelude.{◌≡◌, false, if◌then◌else◌, nat_lt, slice_index_or};
 
+use crate::sizes::CARDS;
 use format::Rule;
 
 /// What a book says besides its cards and pairs: its rule, if it has one, and which places are withdrawn.
-#[derive(Clone, Copy)]
+#[derive(Clone, Copy, PartialEq, Eq, Debug)]
 pub struct Notes {
     pub(crate) rule: Option<Rule>,
-    pub(crate) withdrawn: [bool; 256],
+    pub(crate) withdrawn: [bool; CARDS],
+}
+
+impl Notes {
+    // No rule, and no roll withdrawn.
+    pub(crate) const NONE: Notes = Notes {
+        rule: None,
+        withdrawn: [false; CARDS],
+    };
 }
 
 /// An open book: numbers alone. Its cards and pair marks lie in the caller's spaces, which come with each call.
-#[derive(Drop)]
+#[derive(PartialEq, Eq, Debug, Drop)]
 pub struct OpenBook {
     pub(crate) count: usize,
     pub(crate) notes: Notes,
@@ -37,10 +46,6 @@ impl OpenBook {
     pub fn is_withdrawn(&self, place: usize) -> bool
         ensures { result ≡ (if nat_lt place 256 then slice_index_or self.now.notes.withdrawn place false else false) }
     {
-        if place < 256 {
-            self.notes.withdrawn[place]
-        } else {
-            false
-        }
+        place < CARDS && self.notes.withdrawn[place]
     }
 }

@@ -1,17 +1,12 @@
-use Rattle.std.proofs.Common.{◌≡◌, true, false, ltb, refl, arith}
-use Rattle.std.proofs.lemmas.Bool.{lt-ltb, le-ltb}
-use Rattle.book.specs.Marks.{pair_number, bit_of}
-use Rattle.book.proofs.Flips.{number_below}
+use Rattle.std.proofs.Common.{ℕ, ◌+◌, ◌-◌, ◌*◌, ◌/◌, ◌<◌, sym, ap, ◌∙◌, arith}
+use Rattle.book.specs.Marks.{pair_number}
+use Rattle.book.proofs.Pairs.{bit_gt, bit_lt}
 use Rattle.book.proofs.marks.pair_bit.Goals as goal
+use Rattle.book.proofs.marks.pair_bit.Goals.{then-u-v, else-u-v}
 
-pub returns-then-u-v : goal.returns-then-u-v
-unfolding pair_number bit_of
-returns-then-u-v c =
-    let t : ltb c.args.u c.args.v ≡ true = lt-ltb _ _ (omega arith) in
-    record { bit = rw t refl; within = number_below c.args.u c.args.v (omega arith) (omega arith) }
-
-pub returns-else-u-v : goal.returns-else-u-v
-unfolding pair_number bit_of
-returns-else-u-v c =
-    let t : ltb c.args.u c.args.v ≡ false = le-ltb _ _ (omega arith) in
-    record { bit = rw t refl; within = number_below c.args.v c.args.u (omega arith) (omega arith) }
+pub returns-clause-bit : goal.returns-clause-bit
+unfolding pair_number
+returns-clause-bit c = elim c.if-u-v.branch [
+  | then-u-v w ↦ ap (λ (p : ℕ × ℕ). p.1 * (p.1 - 1) / 2 + p.0) w.low-is ∙ sym (bit_lt c.args.u c.args.v w.if-u-v.true)
+  | else-u-v w ↦ (let l : c.args.v < c.args.u = omega arith in ap (λ (p : ℕ × ℕ). p.1 * (p.1 - 1) / 2 + p.0) w.low-is ∙ sym (bit_gt c.args.u c.args.v l))
+]

@@ -1,5 +1,5 @@
 -- Counting the entries of a list that pass a test.
-use Rattle.std.proofs.Common.{◌≡◌, ℕ, zero, suc, ◌+◌, ◌<◌, ◌≤◌, Bool, true, false, cond, eqb, ltb, ◌⊎◌, List, [], ◌∷◌, ◌++◌, length, sym, refl, ap, ◌∙◌, subst, inl, inr, add-one, arith}
+use Rattle.std.proofs.Common.{◌≡◌, ℕ, zero, suc, ◌+◌, ◌<◌, ◌≤◌, Bool, true, false, cond, eqb, ltb, ◌⊎◌, List, [], ◌∷◌, ◌++◌, length, sym, refl, ap, ◌∙◌, subst, inl, inr, arith}
 use Rattle.std.proofs.lemmas.Bool.{eqb-true, eq-eqb, ne_eqb, lt-ltb, le-ltb, cases_lt, cases_eq}
 use Rattle.cliques.specs.Sets.{places}
 use Rattle.order.specs.Orders.{bit, how_many, times, after, minus}
@@ -137,6 +137,3 @@ places_in n w m t h =
       | inl l ↦ l
       | inr l ↦ let b : bit (ltb w n) ≡ 0 = ap bit (le-ltb w n l) in absurd (omega arith)
     ]
-
-pub many_places : (p : ℕ → Bool) (k : ℕ) → how_many p (places (k + 1)) ≡ how_many p (places k) + bit (p k)
-many_places p k = ap (λ m. how_many p (places m)) (add-one k) ∙ many_push p (places k) k

@@ -1,8 +1,9 @@
 -- One place taken from the line.
-use Rattle.std.proofs.Common.{◌≡◌, ℕ, suc, ◌+◌, ◌-◌, ◌<◌, ◌≤◌, Bool, true, false, cond, ◌&&◌, ltb, List, [], ◌∷◌, length, take, drop, set, is_ok, Some, None, Ok, Err, Option, Result, sym, refl, ap, ◌∙◌, subst, inl, inr, arith}
+use Rattle.std.proofs.Common.{◌≡◌, ℕ, suc, ◌+◌, ◌-◌, ◌<◌, ◌≤◌, Bool, true, false, cond, ◌&&◌, ltb, List, [], ◌∷◌, length, take, drop, set, is_ok, Some, None, Ok, Option, Result, sym, refl, ap, ◌∙◌, subst, inl, inr, arith}
 use Rattle.std.proofs.lemmas.List.{length-take, length-set, set-set}
-use Rattle.std.proofs.lemmas.Bool.{cases_eq, both_ways, lt-ltb}
+use Rattle.std.proofs.lemmas.Bool.{both_ways, lt-ltb}
 use Rattle.std.specs.Option.{ok_or}
+use Rattle.std.specs.Result.{result_ok}
 use Rattle.refusal.specs.declared.Refusal.{Refusal}
 use Rattle.sorted.specs.Keyed.{first_of, without, inserted, tie, leading, insert_answer, Rising}
 use Rattle.order.specs.declared.tallies.Tally.{Tally}
@@ -13,13 +14,13 @@ use Rattle.order.specs.Lines.{upto, tally_at, count_at, waits_at, key_of, Among,
 use Rattle.order.proofs.Counts.{in_places, times_places, many_minus}
 use Rattle.order.proofs.Picks.{pre_refl, pick_only, bit_small}
 use Rattle.order.proofs.Kept.{filter_in, filter_out, filter_same, filter_minus, none_in}
-use Rattle.order.proofs.Lining.{tie_refl, length_without, before_at, tally_same, tally_other, waits_wide, its_key, lined_dropped, lined_added, fresh}
+use Rattle.order.proofs.Lining.{tie_refl, length_without, before_at, tally_same, tally_other, waits_wide, its_key, length_inserted, lined_dropped, lined_added, fresh}
 
 pub held_room : {X : Type 0} (xs : List X) (c : ℕ) → length (take c xs) ≤ length xs
 held_room xs c = omega (arith, length-take c xs)
 
 -- an insertion of a place that does not wait does its work
-pub inserts : (R : List Tally) (W : List Waiting) → Lined R W → (v c m : ℕ) → v < 256 → waits_at R v ≡ false → length W < m
+inserts : (R : List Tally) (W : List Waiting) → Lined R W → (v c m : ℕ) → v < 256 → waits_at R v ≡ false → length W < m
     → (x : Waiting) → x ≡ record { tally = c; place = v }
     → (r : Result (Unit {0}) Refusal) → r ≡ insert_answer (first_of (λ y. tie upto y x) W) (ltb (length W) m)
     → (W' : List Waiting) → W' ≡ cond (is_ok r) (inserted upto (λ w. w) x W) W
@@ -29,6 +30,22 @@ inserts R W s v c m lt h room x qx r q W' q' =
     let f : first_of (λ y. tie upto y x) W ≡ None = ap (λ z. first_of (λ y. tie upto y z) W) qx ∙ fresh R W s v c h in
     let g : insert_answer (first_of (λ y. tie upto y x) W) (ltb (length W) m) ≡ Ok tt = ap (λ o. insert_answer o (ltb (length W) m)) f ∙ ap (λ b. insert_answer {X = Waiting} None b) (lt-ltb (length W) m room) in
     q' ∙ ap (λ o. cond (is_ok o) (inserted upto (λ w. w) x W) W) (q ∙ g) ∙ ap (λ z. inserted upto (λ w. w) z W) qx
+
+-- the line and the tallies then
+pub begun : (R R' : List Tally) (W : List Waiting) → Lined R W → (v c m : ℕ) → v < 256 → waits_at R v ≡ false → length W < m
+    → R' ≡ set R v (record { partners = c; waits = true }) → (x : Waiting) → x ≡ key_of R' v
+    → (r : Result (Unit {0}) Refusal) → r ≡ insert_answer (first_of (λ y. tie upto y x) W) (ltb (length W) m)
+    → (W' : List Waiting) → W' ≡ cond (is_ok r) (inserted upto (λ w. w) x W) W
+    → Lined R' W' × (length W' ≡ length W + 1)
+begun R R' W s v c m lt h room q x qx r qr W' qw =
+    let t : Tally = record { partners = c; waits = true } in
+    let k : Waiting = record { tally = c; place = v } in
+    let mk : ℕ → Waiting = λ n. record { tally = n; place = v } in
+    let x' : x ≡ k = qx ∙ ap (λ (z : List Tally). key_of z v) q ∙ ap (λ z. mk z.partners) (tally_same R v t (omega (arith, s.wide))) in
+    let w = inserts R W s v c m lt h room x x' r qr W' qw in (
+      subst (λ (z : List Tally). Lined z W') (sym q) (subst (λ (l : List Waiting). Lined (set R v t) l) (sym w) (lined_added R W s v c lt h)),
+      omega (arith, ap length w, length_inserted k W),
+    )
 
 -- a place that waits is lowered
 pub lowers : (R : List Tally) (W : List Waiting) → Lined R W → (v m : ℕ) → waits_at R v ≡ true → length W ≤ m
@@ -59,52 +76,6 @@ lowers R W s v m h room k qk W1 q1 R' qr x qx r q W2 q2 =
     let e : set R1 v on ≡ R' = set-set R v off on ∙ sym qon in
     (subst (λ (w : List Waiting). Lined R' w) (sym w2) (subst (λ (z : List Tally). Lined z (inserted upto (λ w. w) (record { tally = c; place = v }) W1)) e a), qon)
 
--- the tallies lowered so far
-pub lowered_none : (p : ℕ → Bool) (R : List Tally) → Lowered 0 p R R
-lowered_none p R = record { waits = λ v. refl; below = λ v l. absurd (omega arith); above = λ v l. refl }
-
-pub lowered_more : (k : ℕ) (p : ℕ → Bool) (R0 R R' : List Tally) → Lowered k p R0 R → p k ≡ true → waits_at R k ≡ true
-    → R' ≡ set R k (record { partners = count_at R k - 1; waits = true }) → Lowered (k + 1) p R0 R'
-lowered_more k p R0 R R' s pk wk q =
-    let t : Tally = record { partners = count_at R k - 1; waits = true } in
-    let here : tally_at R' k ≡ t = ap (λ (z : List Tally). tally_at z k) q ∙ tally_same R k t (waits_wide R k wk) in
-    let there : (v : ℕ) → (v ≡ k → ⊥) → tally_at R' v ≡ tally_at R v = λ v n. ap (λ (z : List Tally). tally_at z v) q ∙ tally_other R k t v n in
-    let w0 : waits_at R0 k ≡ true = sym (s.waits k) ∙ wk in
-    let at : count_at R' k ≡ count_at R0 k - bit (p k && waits_at R0 k) =
-    ap (λ z. z.partners) here ∙ ap (λ n. n - 1) (s.above k (omega arith)) ∙ sym (ap (λ b. count_at R0 k - bit (b && waits_at R0 k)) pk ∙ ap (λ b. count_at R0 k - bit b) w0) in
-    record {
-      waits = λ v. elim (cases_eq v k) [
-        | inl r ↦ subst (λ z. waits_at R' z ≡ waits_at R0 z) (sym r) (ap (λ z. z.waits) here ∙ sym w0)
-        | inr r ↦ ap (λ z. z.waits) (there v r) ∙ s.waits v
-      ];
-      below = λ v l. elim (cases_eq v k) [
-        | inl r ↦ subst (λ z. count_at R' z ≡ count_at R0 z - bit (p z && waits_at R0 z)) (sym r) at
-        | inr r ↦ ap (λ z. z.partners) (there v r) ∙ s.below v (omega arith)
-      ];
-      above = λ v l. ap (λ z. z.partners) (there v (λ r. omega arith)) ∙ s.above v (omega arith);
-    }
-
-pub lowered_skip : (k : ℕ) (p : ℕ → Bool) (R0 R : List Tally) → Lowered k p R0 R → (p k && waits_at R k) ≡ false → Lowered (k + 1) p R0 R
-lowered_skip k p R0 R s h =
-    let z : bit (p k && waits_at R0 k) ≡ 0 = ap (λ b. bit (p k && b)) (sym (s.waits k)) ∙ ap bit h in
-    let a = s.above k (omega arith) in
-    let at : count_at R k ≡ count_at R0 k - bit (p k && waits_at R0 k) = omega arith in
-    record {
-      waits = s.waits;
-      below = λ v l. elim (cases_eq v k) [
-        | inl r ↦ subst (λ z. count_at R z ≡ count_at R0 z - bit (p z && waits_at R0 z)) (sym r) at
-        | inr r ↦ s.below v (omega arith)
-      ];
-      above = λ v l. s.above v (omega arith);
-    }
-
-pub skip_first : (a b : Bool) → a ≡ false → (a && b) ≡ false
-skip_first a b q = ap (λ z. z && b) q
-
-pub skip_second : (a b : Bool) → b ≡ false → (a && b) ≡ false
-skip_second true b q = q
-skip_second false b q = refl
-
 -- the first of the line
 pub lead : (W : List Waiting) (x : Waiting) → leading W ≡ Some x → W ≡ x ∷ drop 1 W
 lead [] x h = let z : ◌≡◌ {A = ℕ} 0 1 = cc in absurd (omega arith)
@@ -114,13 +85,13 @@ pub lead_none : (W : List Waiting) → leading W ≡ None → W ≡ []
 lead_none [] h = refl
 lead_none (y ∷ ys) h = let z : ◌≡◌ {A = ℕ} 0 1 = cc in absurd (omega arith)
 
-pub ok_lead : (o : Option Waiting) (x : Waiting) (y : Refusal) → Ok x ≡ ok_or o y → o ≡ Some x
-ok_lead None x y h = let z : ◌≡◌ {A = ℕ} 0 1 = cc in absurd (omega arith)
-ok_lead (Some a) x y h = let q : a ≡ x = cc in ap (λ z. Some z) q
+told_back : {X E : Type 0} (o : Option X) (e : E) → result_ok (ok_or o e) ≡ o
+told_back None e = refl
+told_back (Some x) e = refl
 
-pub err_lead : (o : Option Waiting) (x y : Refusal) → Err x ≡ ok_or o y → o ≡ None
-err_lead None x y h = refl
-err_lead (Some a) x y h = let z : ◌≡◌ {A = ℕ} 0 1 = cc in absurd (omega arith)
+-- what the first of the line is, from what taking it answers
+pub lead_told : {X E : Type 0} (o : Option X) (e : E) (r : Result X E) (q s : Option X) → r ≡ ok_or o e → q ≡ result_ok r → q ≡ s → o ≡ s
+lead_told o e r q s a b h = sym (told_back o e) ∙ sym (ap result_ok a) ∙ sym b ∙ h
 
 pub no_left : (n : ℕ) (R : List Tally) (W : List Waiting) → Lined R W → leading W ≡ None → left n R ≡ []
 no_left n R W s h = none_in (left n R) (λ w m. subst (λ (l : List Waiting). Among (key_of R w) l) (lead_none W h) (s.all w (filter_out (waits_at R) (places n) w m)))

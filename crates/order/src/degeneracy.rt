@@ -19,15 +19,16 @@ pub fn degeneracy_order<T: PairTable>(
     order: &mut [u16],
     space: &mut [Waiting],
 ) -> Result<(usize, usize), Refusal>
-    ensures test { is_ok result ≡ holds_all (T.PairTable.meaning table.now) order.old space.old }
-    ensures answer { MatchResult result (λ a. Ordered (T.PairTable.meaning table.now) a.0 a.1 order.old order.new) (λ x. (x ≡ refused Reason.ShortSpace Layer.Table 0) × (order.new ≡ order.old) × (space.new ≡ space.old)) }
+    ensures test { is_ok result ≡ holds_all (T.meaning table.now) order.old space.old }
+    ensures answer { MatchResult result (λ a. Ordered (T.meaning table.now) a.0 a.1 order.old order.new) (λ x. (x ≡ refused Reason.ShortSpace Layer.Table 0) × (order.new ≡ order.old) × (space.new ≡ space.old)) }
     ensures space { length space.new ≡ length space.old }
 {
     let n = table.size();
     if order.len() < n || space.len() < n {
         return Err(Refusal::new(Reason::ShortSpace, Layer::Table, 0));
     }
-    let largest = take_all(table, n, order, space);
-    heads_first(table, order, n);
+    let front = &mut order[..n];
+    let largest = take_all(table, front, space);
+    heads_first(table, front);
     Ok((n, largest))
 }

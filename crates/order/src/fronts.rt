@@ -8,34 +8,32 @@ use pairs::PairTable;
 
 // Whether no partner of the place stands before it.
 fn is_head<T: PairTable>(table: &T, before: &[u16], place: u16) -> bool
-    ensures { result ≡ head (T.PairTable.meaning table.now).partners before.now place }
+    ensures { result ≡ head (T.meaning table.now).partners before.now place }
 {
-    for other in before {
-        if table.partners(place as usize, *other as usize) {
-            return false;
-        }
-    }
-    true
+    before
+        .iter()
+        .all(|&other| !table.partners(place as usize, other as usize))
 }
 
 // Moves the entry at `from` up to `to`.
 fn move_up(order: &mut [u16], from: usize, to: usize)
-    requires { (to ≤ from) × (from < length order.old) }
+    requires up { to ≤ from }
+    requires within { from < length order.old }
     ensures front { take (from + 1) order.new ≡ insert (take from order.old) to (slice_index order.old from) }
     ensures rest { drop (from + 1) order.new ≡ drop (from + 1) order.old }
 {
     order[to..from + 1].rotate_right(1);
 }
 
-// Moves the heads among the first `n` entries to the front.
-pub(crate) fn heads_first<T: PairTable>(table: &T, order: &mut [u16], n: usize)
-    requires { n ≤ length order.old }
-    ensures front { take n order.new ≡ heads_first (T.PairTable.meaning table.now).partners (take n order.old) }
-    ensures rest { drop n order.new ≡ drop n order.old }
+// Moves the heads of the order to its front.
+pub(crate) fn heads_first<T: PairTable>(table: &T, order: &mut [u16])
+    ensures { order.new ≡ heads_first (T.meaning table.now).partners order.old }
 {
     let mut count = 0;
-    for i in 0..n {
-        if is_head(table, &order[0..i], order[i]) {
+    // by place: each turn reads the entries before the place, and writes them and the entry there
+    for i in 0..order.len() {
+        let place = order[i];
+        if is_head(table, &order[..i], place) {
             move_up(order, i, count);
             count += 1;
         }

@@ -6,7 +6,7 @@ ghost use Rattle.order.specs.Lines.{key_of, waits_at, count_at};
 use crate::waiting::Waiting;
 
 // How many partners of a place wait, and whether it waits itself.
-#[derive(Clone, Copy)]
+#[derive(Clone, Copy, PartialEq, Eq, Debug)]
 pub(crate) struct Tally {
     pub(crate) partners: u16,
     pub(crate) waits: bool,

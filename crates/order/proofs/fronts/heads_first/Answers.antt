@@ -1,11 +1,8 @@
-use Rattle.std.proofs.Common.{◌≡◌, ℕ, ◌+◌, ◌-◌, ◌<◌, List, length, get_or, take, sym, refl, ap, ◌∙◌, subst, arith}
+use Rattle.std.proofs.Common.{◌≡◌, ℕ, ◌+◌, ◌<◌, List, length, get_or, take, sym, ◌∙◌, subst, arith}
 use Rattle.order.specs.Orders.{head}
-use Rattle.order.proofs.Moves.{Moved, moved_none, moved_head, moved_other}
+use Rattle.order.proofs.Moves.{Moved, moved_head, moved_other}
 use Rattle.order.proofs.fronts.heads_first.Goals as goal
 use Rattle.order.proofs.fronts.heads_first.Goals.{then-is_head, else-is_head}
-
-pub loop-i-init : goal.loop-i-init
-loop-i-init g c = (refl, omega arith, moved_none _ _)
 
 pub loop-i-preserved : goal.loop-i-preserved
 loop-i-preserved g c =
@@ -15,10 +12,9 @@ loop-i-preserved g c =
     let ys = c.args.order.now in
     let xs = c.loop-i.order in
     let inv = c.loop-i.invariant in
-    let z : i - 0 ≡ i = omega arith in
-    let t : c.is_head.result ≡ head e (take i xs) (get_or xs i 0) = c.is_head.ensures ∙ ap (λ k. head e (take k xs) (get_or xs i 0)) z in
-    let ly : i < length ys = omega (arith, c.requires) in
+    let t : c.is_head.result ≡ head e (take i xs) (get_or xs i 0) = c.is_head.ensures in
     let lx : i < length xs = omega (arith, inv.0) in
+    let ly : i < length ys = omega (arith, inv.0) in
     elim c.if-is_head.branch [
       | then-is_head w ↦ (
         c.if-is_head.auto.order ∙ inv.0,
@@ -35,12 +31,3 @@ loop-i-preserved g c =
             (moved_other e i h ys xs inv.2 ly lx (sym t ∙ w.if-is_head.false))),
       )
     ]
-
-pub returns : goal.returns
-returns g c =
-    let e = (g.T.PairTable.meaning c.args.table.now).partners in
-    let ys = c.args.order.now in
-    let xs = c.loop-i.order in
-    let q : c.loop-i.i ≡ c.args.n = omega arith in
-    let m = subst (λ k. Moved e k c.loop-i.count ys xs) q c.loop-i.invariant.2 in
-    record { front = m.front; rest = m.rest }

@@ -1,5 +1,5 @@
 -- The calls on a list that passes its checks.
-use Rattle.std.proofs.Common.{◌≡◌, ℕ, ◌≤◌, List, Some, None, Ok, Err, Option, sym, ap, ◌∙◌, inl, inr, arith}
+use Rattle.std.proofs.Common.{◌≡◌, ℕ, List, take, Some, None, Ok, Err, Option, sym, ap, ◌∙◌, inl, inr, arith}
 use Rattle.refusal.specs.declared.Refusal.{Refusal}
 use Rattle.cliques.specs.Graph.{Graph, Lawful}
 use Rattle.cliques.specs.Sets.{smallest, below, MaximalClique}
@@ -7,19 +7,18 @@ use Rattle.cliques.specs.Completion.{completion, parent_index, parent_of}
 use Rattle.cliques.specs.Shortcuts.{append_pass, largest_barrier}
 use Rattle.cliques.proofs.Indices.{below_clique, eq_root, root_eq, root_or}
 use Rattle.cliques.proofs.Parents.{parent_of_none, parent_of_some}
-use Rattle.cliques.proofs.Passes.{pass_is, pass_long}
+use Rattle.cliques.proofs.Passes.{pass_is}
+use Rattle.std.proofs.lemmas.List.{take_all}
+use Rattle.completion.proofs.Sound.{clique_of, few, maximal_of}
 use Rattle.cliques.proofs.Barriers.{largest_is_index}
 use Rattle.completion.specs.declared.standing.Standing.{Standing}
 use Rattle.completion.specs.Standings.{standing_of, members_of}
 use Rattle.completion.specs.Checks.{set_fault, maximal_fault}
 use Rattle.completion.specs.Answers.{copied, unless, completing, indexing, copied_if_any, parenting}
-use Rattle.completion.proofs.Standings.{back, counts}
+use Rattle.completion.proofs.Standings.{back}
 use Rattle.completion.proofs.Sound.{clique_of, maximal_of}
 
 module _ (g : Graph) (law : Lawful g) where
-  pub pass_few : (X : List ℕ) (s : Standing) → s ≡ standing_of (append_pass g g.size X) → s.count ≤ 256
-  pass_few X s p = let a = counts s (append_pass g g.size X) p in let b = pass_long g g.size X in let c = law.few in omega arith
-
   pub complete_gives : (X out : List ℕ) (s : Standing) → None ≡ set_fault g X → s ≡ standing_of (append_pass g g.size X)
       → copied (members_of s) out ≡ completing g X out
   complete_gives X out s q p =
@@ -55,9 +54,10 @@ module _ (g : Graph) (law : Lawful g) where
                 ∙ sym (parent_of_some g law X (λ t. let e = root_eq g law X t in omega arith)))
           ]
 
-      -- the members below i, kept as b and read as L, completed as s
-      pub parent_copied : (out L : List ℕ) (b s : Standing) → (i ≡ f → ⊥) → b ≡ standing_of (below i X) → L ≡ members_of b
-          → s ≡ standing_of (append_pass g g.size L) → copied_if_any (Some (members_of s)) out ≡ copied_if_any (parent_of g X) out
-      parent_copied out L b s z x l y =
+      -- the set kept as w, and its members below i completed as s
+      pub parent_copied : (out : List ℕ) (w s : Standing) → (i ≡ f → ⊥) → w ≡ standing_of (take 256 X)
+          → s ≡ standing_of (append_pass g g.size (below i (members_of w))) → copied_if_any (Some (members_of s)) out ≡ copied_if_any (parent_of g X) out
+      parent_copied out w s z x y =
+          let e : members_of w ≡ X = back w (take 256 X) x ∙ take_all 256 X (few g law X (sym none)) in
           ap (λ (o : Option (List ℕ)). copied_if_any o out)
-          (ap (λ (Y : List ℕ). Some Y) (back s (append_pass g g.size L) y ∙ ap (append_pass g g.size) (l ∙ back b (below i X) x)) ∙ parent_some z)
+          (ap (λ (Y : List ℕ). Some Y) (back s (append_pass g g.size (below i (members_of w))) y ∙ ap (λ (Y : List ℕ). append_pass g g.size (below i Y)) e) ∙ parent_some z)

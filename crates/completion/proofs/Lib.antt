@@ -1,3 +1,5 @@
+pub mod Chains
+pub mod Faults
 pub mod Lists
 pub mod Standings
 pub mod Passing

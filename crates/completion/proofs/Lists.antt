@@ -1,39 +1,15 @@
--- Tests at each index of a list and at each place, and lists written entry by entry.
-use Rattle.std.proofs.Common.{◌≡◌, ℕ, zero, suc, ◌+◌, ◌<◌, ◌≤◌, min, Bool, true, false, cond, eqb, ltb, ◌≢◌, List, [], ◌∷◌, ◌++◌, length, get_or, take, drop, set, replicate, sym, refl, ap, ◌∙◌, inl, inr, le_of_suc-le-suc, not-suc-le-zero, add-one, arith}
+-- A member at an index, tests at each place, and the entries at a list's front.
+use Rattle.std.proofs.Common.{◌≡◌, ℕ, zero, suc, ◌+◌, ◌<◌, ◌≤◌, min, Bool, true, false, cond, eqb, ltb, ◌≢◌, List, [], ◌∷◌, ◌++◌, length, get_or, take, drop, set, replicate, sym, refl, ap, ◌∙◌, inl, inr, le_of_suc-le-suc, not-suc-le-zero, arith}
 use Rattle.std.proofs.lemmas.List.{get_or_past, get_or-replicate, get_or-set_same, get_or-set_other, length-replicate, take_all}
-use Rattle.std.proofs.lemmas.Bool.{and_left, and_right, or_from, or_left, or_right, eq-eqb, ne_eqb, lt-ltb, le-ltb, cond-true, cond-false, cases_order}
-use Rattle.cliques.specs.Sets.{has, every, first_of, places}
+use Rattle.std.proofs.lemmas.Bool.{or_left, or_right, eq-eqb, lt-ltb, le-ltb, cond-true, cond-false, cases_order}
+use Rattle.cliques.specs.Sets.{has, every, places}
 use Rattle.cliques.proofs.Tests.{is_true, is_false, of_true, of_false}
 use Rattle.cliques.proofs.Members.{every_at, every_of, places_in, places_out}
-
-pub every_yes : (p : ℕ → Bool) (L : List ℕ) → ((i : ℕ) → i < length L → p (get_or L i 0) ≡ true) → every p L ≡ true
-every_yes p [] f = refl
-every_yes p (x ∷ xs) f = rw (f 0 (omega arith)) (every_yes p xs (λ i h. f (suc i) (omega arith)))
-
-pub every_no : (p : ℕ → Bool) (L : List ℕ) (i : ℕ) → i < length L → p (get_or L i 0) ≡ false → every p L ≡ false
-every_no p [] i h q = absurd (not-suc-le-zero h)
-every_no p (x ∷ xs) zero h q = and_left (p x) (every p xs) q
-every_no p (x ∷ xs) (suc i) h q = and_right (p x) (every p xs) (every_no p xs i (le_of_suc-le-suc h) q)
 
 pub has_yes : (w : ℕ) (L : List ℕ) (i : ℕ) → i < length L → w ≡ get_or L i 0 → has w L ≡ true
 has_yes w [] i h q = absurd (not-suc-le-zero h)
 has_yes w (x ∷ xs) zero h q = or_left (eqb w x) (has w xs) (eq-eqb w x q)
 has_yes w (x ∷ xs) (suc i) h q = or_right (eqb w x) (has w xs) (has_yes w xs i (le_of_suc-le-suc h) q)
-
-pub has_no : (w : ℕ) (L : List ℕ) → ((i : ℕ) → i < length L → w ≡ get_or L i 0 → ⊥) → has w L ≡ false
-has_no w [] f = refl
-has_no w (x ∷ xs) f = or_from (eqb w x) (has w xs) (ne_eqb w x (f 0 (omega arith))) (has_no w xs (λ i h. f (suc i) (omega arith)))
-
-pub first_yes : (p : ℕ → Bool) (L : List ℕ) (i : ℕ) → i < length L → ((j : ℕ) → j < i → p (get_or L j 0) ≡ false)
-    → p (get_or L i 0) ≡ true → first_of p L ≡ get_or L i 0
-first_yes p [] i h f q = absurd (not-suc-le-zero h)
-first_yes p (x ∷ xs) zero h f q = cond-true (p x) x (first_of p xs) q
-first_yes p (x ∷ xs) (suc i) h f q =
-    cond-false (p x) x (first_of p xs) (f 0 (omega arith)) ∙ first_yes p xs i (le_of_suc-le-suc h) (λ j k. f (suc j) (omega arith)) q
-
-pub first_none : (p : ℕ → Bool) (L : List ℕ) → ((j : ℕ) → j < length L → p (get_or L j 0) ≡ false) → first_of p L ≡ 0
-first_none p [] f = refl
-first_none p (x ∷ xs) f = cond-false (p x) x (first_of p xs) (f 0 (omega arith)) ∙ first_none p xs (λ j k. f (suc j) (omega arith))
 
 -- a test at every place below k
 pub places_yes : (p : ℕ → Bool) (k : ℕ) → ((j : ℕ) → j < k → p j ≡ true) → every p (places k) ≡ true
@@ -41,18 +17,6 @@ places_yes p k f = is_true (every p (places k)) (every_of p (places k) (λ w m. 
 
 pub places_no : (p : ℕ → Bool) (k j : ℕ) → j < k → p j ≡ false → every p (places k) ≡ false
 places_no p k j h q = is_false (every p (places k)) (λ t. of_false (p j) q (every_at p (places k) j t (places_in k j h)))
-
--- one entry more of s at the front of d
-front_suc : (d s : List ℕ) (i : ℕ) → i < length d → i < length s
-    → set (take i s ++ drop i d) i (get_or s i 0) ≡ take (suc i) s ++ drop (suc i) d
-front_suc [] s i h k = absurd (omega arith)
-front_suc (y ∷ d) [] i h k = absurd (omega arith)
-front_suc (y ∷ d) (x ∷ s) zero h k = refl
-front_suc (y ∷ d) (x ∷ s) (suc i) h k = ap (λ (t : List ℕ). x ∷ t) (front_suc d s i (omega arith) (omega arith))
-
-pub front_more : (d s : List ℕ) (i : ℕ) → i < length d → i < length s
-    → set (take i s ++ drop i d) i (get_or s i 0) ≡ take (i + 1) s ++ drop (i + 1) d
-front_more d s i h k = rw add-one (front_suc d s i h k)
 
 -- x written after xs, which stands at the front of d
 pub push_at : (xs d : List ℕ) (x : ℕ) → length xs < length d

@@ -1,11 +1,11 @@
 -- A set that is kept: its members again, one member more, and the entries of a list that pass a test.
-use Rattle.std.proofs.Common.{◌≡◌, ℕ, suc, ◌+◌, ◌<◌, ◌≤◌, Bool, true, false, cond, List, [], ◌∷◌, ◌++◌, length, get_or, take, drop, set, replicate, sym, refl, ap, ◌∙◌, arith}
+use Rattle.std.proofs.Common.{◌≡◌, ℕ, suc, ◌+◌, ◌<◌, ◌≤◌, min, Bool, true, false, cond, List, [], ◌∷◌, ◌++◌, length, get_or, take, drop, set, replicate, sym, refl, ap, ◌∙◌, arith}
 use lib.Seq.{take-append_seam}
-use Rattle.std.proofs.lemmas.List.{length_push, take_more, take_all, take-append-le, length-take-le}
+use Rattle.std.proofs.lemmas.List.{length_push, take_more, take_all, take-append-le, length-take, length-take-le}
 use Rattle.cliques.specs.Sets.{filter}
 use Rattle.completion.specs.declared.standing.Standing.{Standing}
 use Rattle.completion.specs.Standings.{standing_of, members_of}
-use Rattle.completion.proofs.Lists.{push_at}
+use Rattle.completion.proofs.Lists.{push_at, take_same}
 
 abbrev zeros : List ℕ
 zeros = replicate 256 0
@@ -22,8 +22,17 @@ again s X e = e ∙ ap standing_of (sym (back s X e))
 pub counts : (s : Standing) (X : List ℕ) → s ≡ standing_of X → s.count ≡ length X
 counts s X e = ap (λ (t : Standing). t.count) e
 
+-- a list's first entries over zeros
+pub of_list : (L A : List ℕ) (n : ℕ) → n ≡ min (length L) 256 → A ≡ take n L → made (A ++ drop n zeros) n ≡ standing_of (take 256 L)
+of_list L A n q e =
+    let l = length-take 256 L in
+    let k : n ≡ length (take 256 L) = omega arith in
+    let t : A ≡ take 256 L = e ∙ take_same n 256 L (omega arith) in
+    ap (λ (Y : List ℕ). made (Y ++ drop n zeros) n) t ∙ ap (λ (j : ℕ). made (take 256 L ++ drop j zeros) j) k
+
+-- one member more where there is room
 pub pushed : (s : Standing) (x : ℕ) → s ≡ standing_of (members_of s) → s.count < 256
-    → made (set s.members s.count x) (s.count + 1) ≡ standing_of (members_of s ++ (x ∷ []))
+    → made (set s.members s.count x) (s.count + 1) ≡ standing_of (take 256 (members_of s ++ (x ∷ [])))
 pushed s x e h =
     let X : List ℕ = members_of s in
     let l : s.count ≡ length X = counts s X e in
@@ -34,24 +43,17 @@ pushed s x e h =
     let k : s.count + 1 ≡ length (X ++ (x ∷ [])) = omega (arith, l, q) in
     let f : set s.members s.count x ≡ (X ++ (x ∷ [])) ++ drop (length (X ++ (x ∷ []))) zeros =
     ap (λ (t : List ℕ). set t s.count x) m ∙ (ap (λ (j : ℕ). set (X ++ drop (length X) zeros) j x) l ∙ (push_at X zeros x p ∙ ap (λ (j : ℕ). (X ++ (x ∷ [])) ++ drop j zeros) a)) in
-    ap (λ (t : List ℕ). made t (s.count + 1)) f ∙ ap (λ (j : ℕ). made ((X ++ (x ∷ [])) ++ drop (length (X ++ (x ∷ []))) zeros) j) k
+    ap (λ (t : List ℕ). made t (s.count + 1)) f
+    ∙ (ap (λ (j : ℕ). made ((X ++ (x ∷ [])) ++ drop (length (X ++ (x ∷ []))) zeros) j) k ∙ ap standing_of (sym (take_all 256 (X ++ (x ∷ [])) (omega arith))))
 
--- a list of at most 256 entries that is kept, with one member more where there is room
-module _ (M : List ℕ) (x : ℕ) (s : Standing) (e : s ≡ standing_of (take 256 M)) (f : length M ≤ 256) where
-  whole : take 256 M ≡ M
-  whole = take_all 256 M f
-
-  same_count : s.count ≡ length M
-  same_count = counts s (take 256 M) e ∙ ap length whole
-
-  pub with_room : s.count < 256 → (t : Standing) → t ≡ standing_of (members_of s ++ (x ∷ [])) → t ≡ standing_of (take 256 (M ++ (x ∷ [])))
-  with_room h t p =
-      let l = length_push M x in
-      let c = same_count in
-      p ∙ ap standing_of (ap (λ (Y : List ℕ). Y ++ (x ∷ [])) (back s (take 256 M) e ∙ whole) ∙ sym (take_all 256 (M ++ (x ∷ [])) (omega arith)))
-
-  pub with_full : 256 ≤ s.count → s ≡ standing_of (take 256 (M ++ (x ∷ [])))
-  with_full h = let c = same_count in e ∙ ap standing_of (sym (take-append-le 256 M (x ∷ []) (omega arith)))
+-- and none where there is not
+pub push_full : (s : Standing) (x : ℕ) → s ≡ standing_of (members_of s) → length s.members ≡ 256 → 256 ≤ s.count
+    → s ≡ standing_of (take 256 (members_of s ++ (x ∷ [])))
+push_full s x e n h =
+    let X : List ℕ = members_of s in
+    let l : s.count ≡ length X = counts s X e in
+    let t : length X ≤ 256 = let z = length-take s.count s.members in omega arith in
+    e ∙ ap standing_of (sym (take-append-le 256 X (x ∷ []) (omega arith) ∙ take_all 256 X t))
 
 -- a list gone through, and the entries that pass kept
 filter_by : (b : Bool) (p : ℕ → Bool) (y x : ℕ) (A : List ℕ)
@@ -90,13 +92,17 @@ module _ (p : ℕ → Bool) (xs : List ℕ) (i : ℕ) (s : Standing) (e : s ≡ 
   more : i < length xs → (b : Bool) → p (get_or xs i 0) ≡ b → next b ≡ filter p (take (i + 1) xs)
   more h b q = sym (ap (filter p) (take_more xs i 0 h) ∙ (filter_push p (take i xs) (get_or xs i 0) ∙ ap next q))
 
-  pub filter_yes : i < length xs → (t : Standing) → p (get_or xs i 0) ≡ true → t ≡ standing_of (members_of s ++ (get_or xs i 0 ∷ []))
-      → t ≡ standing_of (filter p (take (i + 1) xs))
-  filter_yes h t q f =
-      f ∙ ap standing_of (ap (λ (z : List ℕ). z ++ (get_or xs i 0 ∷ [])) (back s (filter p (take i xs)) e) ∙ more h true q)
+  pub filter_yes : i < length xs → length xs ≤ 256 → (t : Standing) → p (get_or xs i 0) ≡ true
+      → (s ≡ standing_of (members_of s) → t ≡ standing_of (take 256 (members_of s ++ (get_or xs i 0 ∷ [])))) → t ≡ standing_of (filter p (take (i + 1) xs))
+  filter_yes h few t q f =
+      let F : List ℕ = filter p (take i xs) in
+      let x : ℕ = get_or xs i 0 in
+      let c : s.count ≡ length F = counts s F e in
+      let r : s.count < 256 = filter_room h few in
+      let l = length_push F x in
+      f (again s F e)
+      ∙ (ap (λ (z : List ℕ). standing_of (take 256 (z ++ (x ∷ [])))) (back s F e)
+      ∙ ap standing_of (take_all 256 (F ++ (x ∷ [])) (omega arith) ∙ more h true q))
 
   pub filter_no : i < length xs → (t : Standing) → p (get_or xs i 0) ≡ false → t ≡ s → t ≡ standing_of (filter p (take (i + 1) xs))
   filter_no h t q f = f ∙ (e ∙ ap standing_of (more h false q))
-
-  pub filter_end : length xs ≤ i → s ≡ standing_of (filter p xs)
-  filter_end h = e ∙ ap (λ (t : List ℕ). standing_of (filter p t)) (take_all i xs h)

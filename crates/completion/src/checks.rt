@@ -20,12 +20,9 @@ fn misplaced(size: usize, set: &[u16], i: usize) -> bool
 fn place_fault(size: usize, set: &[u16]) -> Option<Refusal>
     ensures { result ≡ first_fault (place_fault size set.now) (length set.now) }
 {
-    for i in 0..set.len() {
-        if misplaced(size, set, i) {
-            return Some(Refusal::new(Reason::BadList, Layer::Walk, i));
-        }
-    }
-    None
+    (0..set.len())
+        .find(|&i| misplaced(size, set, i))
+        .map(|i| Refusal::new(Reason::BadList, Layer::Walk, i))
 }
 
 // Whether the entry at `i` is no partner of some earlier one.
@@ -33,44 +30,33 @@ fn stranger<T: PairTable>(table: &T, set: &[u16], i: usize) -> bool
     requires { i < length set.now }
     ensures { result ≡ stranger (T.PairTable.meaning table.now) set.now i }
 {
-    !partner_of_all(table, set[i] as usize, &set[0..i])
+    !partner_of_all(table, set[i] as usize, &set[..i])
 }
 
 // The refusal for the first such entry.
 fn stranger_fault<T: PairTable>(table: &T, set: &[u16]) -> Option<Refusal>
     ensures { result ≡ first_fault (stranger_fault (T.PairTable.meaning table.now) set.now) (length set.now) }
 {
-    for i in 0..set.len() {
-        if stranger(table, set, i) {
-            return Some(Refusal::new(Reason::NotPartners, Layer::Walk, i));
-        }
-    }
-    None
+    (0..set.len())
+        .find(|&i| stranger(table, set, i))
+        .map(|i| Refusal::new(Reason::NotPartners, Layer::Walk, i))
 }
 
 // Why a list is no clique.
 pub(crate) fn set_fault<T: PairTable>(table: &T, set: &[u16]) -> Option<Refusal>
     ensures { result ≡ set_fault (T.PairTable.meaning table.now) set.now }
 {
-    if set.len() == 0 {
+    if set.is_empty() {
         return Some(Refusal::new(Reason::BadList, Layer::Walk, 0));
     }
-    match place_fault(table.size(), set) {
-        Some(refusal) => Some(refusal),
-        None => stranger_fault(table, set),
-    }
+    place_fault(table.size(), set).or_else(|| stranger_fault(table, set))
 }
 
 // Whether some place is a partner of every entry.
 fn can_grow<T: PairTable>(table: &T, set: &[u16]) -> bool
     ensures { result ≡ can_grow (T.PairTable.meaning table.now) set.now }
 {
-    for w in 0..table.size() {
-        if partner_of_all(table, w, set) {
-            return true;
-        }
-    }
-    false
+    (0..table.size()).any(|w| partner_of_all(table, w, set))
 }
 
 /// Tells why a list is refused as a maximal clique, or `None`: what `complete` refuses of the list, and then a set that a
@@ -78,14 +64,7 @@ fn can_grow<T: PairTable>(table: &T, set: &[u16]) -> bool
 pub fn maximal_fault<T: PairTable>(table: &T, set: &[u16]) -> Option<Refusal>
     ensures { result ≡ maximal_fault (T.PairTable.meaning table.now) set.now }
 {
-    match set_fault(table, set) {
-        Some(refusal) => Some(refusal),
-        None => {
-            if can_grow(table, set) {
-                Some(Refusal::new(Reason::NotMaximal, Layer::Walk, 0))
-            } else {
-                None
-            }
-        }
-    }
+    set_fault(table, set).or_else(|| {
+        can_grow(table, set).then(|| Refusal::new(Reason::NotMaximal, Layer::Walk, 0))
+    })
 }

@@ -7,20 +7,14 @@ ghost use Rattle.cliques.specs.Shortcuts.{append_pass};
 ghost use Rattle.completion.specs.Standings.{members_of, standing_of};
 
 use crate::sets::{is_member, members_below, partner_of_all};
-use crate::standing::{Standing, empty, members_of, push};
+use crate::standing::Standing;
 use pairs::PairTable;
 
 // Whether `k` is a member, or a partner of every member and of all that is gathered.
 fn joins<T: PairTable>(table: &T, k: usize, set: &[u16], got: &[u16]) -> bool
     ensures { result ≡ (has k set.now || (partner_of_all (T.PairTable.meaning table.now) k set.now && partner_of_all (T.PairTable.meaning table.now) k got.now)) }
 {
-    if is_member(k, set) {
-        return true;
-    }
-    if !partner_of_all(table, k, set) {
-        return false;
-    }
-    partner_of_all(table, k, got)
+    is_member(k, set) || (partner_of_all(table, k, set) && partner_of_all(table, k, got))
 }
 
 /// The completion of a clique, gathered in rising order: each place that is a member, or a partner of every member and of
@@ -29,11 +23,10 @@ pub fn completed<T: PairTable>(table: &T, set: &[u16]) -> Standing
     ensures clique { Clique (T.PairTable.meaning table.now) set.now → result ≡ standing_of (completion (T.PairTable.meaning table.now) set.now) }
     ensures pass { result ≡ standing_of (append_pass (T.PairTable.meaning table.now) (T.PairTable.meaning table.now).size set.now) }
 {
-    let n = table.size();
-    let mut got = empty();
-    for k in 0..n {
-        if joins(table, k, set, members_of(&got)) {
-            push(&mut got, k as u16);
+    let mut got = Standing::empty();
+    for k in 0..table.size() {
+        if joins(table, k, set, got.members()) {
+            got.push(k as u16);
         }
     }
     got

@@ -1,45 +1,25 @@
 //! Tests and parts of a set of places.
 
-ghost use Rattle.std.specs.Prelude.{◌≡◌, ◌≤◌, ◌&&◌, length, nat_lt};
+ghost use Rattle.std.specs.Prelude.{◌≡◌, ◌&&◌, nat_lt};
 ghost use Rattle.cliques.specs.Completion.{partners_below};
 ghost use Rattle.cliques.specs.Sets.{below, has, partner_of_all, smallest};
 ghost use Rattle.completion.specs.Standings.{members_of, standing_of};
 
-use crate::standing::{Standing, empty, push};
+use crate::standing::Standing;
 use pairs::PairTable;
 
 /// Tells whether `w` is a member.
 pub fn is_member(w: usize, set: &[u16]) -> bool
     ensures { result ≡ has w set.now }
 {
-    for i in 0..set.len() {
-        if w == set[i] as usize {
-            return true;
-        }
-    }
-    false
+    u16::try_from(w).is_ok_and(|place| set.contains(&place))
 }
 
 /// The first entry, which is the smallest member of a rising list; 0 where there is none.
 pub fn smallest(set: &[u16]) -> u16
     ensures { result ≡ smallest set.now }
 {
-    if set.len() == 0 { 0 } else { set[0] }
-}
-
-// The members below `v`.
-pub(crate) fn below(set: &[u16], v: u16) -> Standing
-    requires { length set.now ≤ 256 }
-    ensures { result ≡ standing_of (below v set.now) }
-{
-    let mut part = empty();
-    for i in 0..set.len() {
-        let x = set[i];
-        if x < v {
-            push(&mut part, x);
-        }
-    }
-    part
+    set.first().copied().unwrap_or(0)
 }
 
 /// The members of a set below `v`.
@@ -47,7 +27,7 @@ pub fn members_below(set: &Standing, v: u16) -> Standing
     ensures kept { result ≡ standing_of (below v (members_of set.now)) }
     ensures members { members_of result ≡ below v (members_of set.now) }
 {
-    below(set.members(), v)
+    set.filter(|x| x < v)
 }
 
 // Whether `x` is below `v` and a partner of it.
@@ -61,25 +41,12 @@ fn is_partner_below<T: PairTable>(table: &T, v: usize, x: usize) -> bool
 pub fn partners_below<T: PairTable>(table: &T, set: &Standing, v: usize) -> Standing
     ensures { result ≡ standing_of (partners_below (T.PairTable.meaning table.now) v (members_of set.now)) }
 {
-    let members = set.members();
-    let mut part = empty();
-    for i in 0..members.len() {
-        let x = members[i];
-        if is_partner_below(table, v, x as usize) {
-            push(&mut part, x);
-        }
-    }
-    part
+    set.filter(|x| is_partner_below(table, v, x as usize))
 }
 
 /// Tells whether `w` is a partner of every member.
 pub fn partner_of_all<T: PairTable>(table: &T, w: usize, set: &[u16]) -> bool
     ensures { result ≡ partner_of_all (T.PairTable.meaning table.now) w set.now }
 {
-    for i in 0..set.len() {
-        if !table.partners(w, set[i] as usize) {
-            return false;
-        }
-    }
-    true
+    set.iter().all(|&x| table.partners(w, x as usize))
 }

@@ -1,12 +1,26 @@
-use Rattle.std.proofs.Common.{ℕ, Option, ap, ◌∙◌}
-use Rattle.completion.specs.Answers.{Outcome}
-use Rattle.completion.proofs.Gives.{parent_gives}
+use Rattle.std.proofs.Common.{◌≡◌, ℕ, List, Option, ap, ◌∙◌, rules}
+use Rattle.completion.specs.Answers.{Outcome, copied_if_any, counted}
+use Rattle.completion.proofs.Faults.{passes}
+use Rattle.completion.proofs.Gives.{parent_gives, parent_none, parent_copied}
 use Rattle.completion.proofs.calls.parent.Goals as goal
 
-pub returns-in-None : goal.returns-in-None
-returns-in-None g c =
-    let q = parent_gives _ (g.T.PairTable.lawful c.args.table.now) c.args.set.now c.in-None.ensures c.args.out.now in
+pub returns-then-index-smallest : goal.returns-then-index-smallest
+returns-then-index-smallest g c =
+    let law = g.T.PairTable.lawful c.args.table.now in
+    let none = passes c.maximal_fault.result _ c.maximal_fault.ensures _ _ c.in_ok-map_or.ensures (λ e k. search rules) in
+    let q = ap (λ (o : Option (List ℕ)). copied_if_any o c.args.out.now) (parent_none _ law c.args.set.now none c.of-index.result.largest c.smallest.result c.of-index.ensures.largest c.smallest.ensures c.if-index-smallest.true)
+    ∙ parent_gives _ law c.args.set.now none c.args.out.now in
+    record { answer = ap (λ (o : Outcome (Option ℕ)). o.answer) q; space = ap (λ (o : Outcome (Option ℕ)). o.space) q }
+
+pub returns : goal.returns
+returns g c =
+    let law = g.T.PairTable.lawful c.args.table.now in
+    let none = passes c.maximal_fault.result _ c.maximal_fault.ensures _ _ c.in_ok-map_or.ensures (λ e k. search rules) in
+    let q = parent_copied _ law c.args.set.now none c.of-index.result.largest c.smallest.result c.of-index.ensures.largest c.smallest.ensures
+    c.args.out.now c.of.result c.completed_below-parent.result c.if-index-smallest.false c.of.ensures c.completed_below-parent.ensures
+    ∙ parent_gives _ law c.args.set.now none c.args.out.now in
+    let e : c.map.result ≡ counted c.copy_out.result = search rules in
     record {
-      answer = c.parent_of.ensures.answer ∙ ap (λ (o : Outcome (Option ℕ)). o.answer) q;
-      space = c.parent_of.ensures.space ∙ ap (λ (o : Outcome (Option ℕ)). o.space) q;
+      answer = e ∙ (ap counted c.copy_out.ensures.answer ∙ ap (λ (o : Outcome (Option ℕ)). o.answer) q);
+      space = c.copy_out.ensures.space ∙ ap (λ (o : Outcome (Option ℕ)). o.space) q;
     }

@@ -1,15 +1,16 @@
-use Rattle.std.proofs.Common.{Bool, Some, sym, ap, ◌∙◌}
+use Rattle.std.proofs.Common.{◌≡◌, ℕ, true, false, length, rules}
+use borrow.Author.Tests.{tests}
+use Rattle.std.proofs.lemmas.Iterator.{first_from_Range}
+use Rattle.refusal.specs.Refusals.{refused}
+use Rattle.refusal.specs.declared.Layer.TheVariants.{Walk}
 use Rattle.refusal.specs.declared.Reason.TheVariants.{BadList}
-use Rattle.pairs.proofs.Faults.{none_more, first_here}
-use Rattle.completion.specs.Checks.{place_fault, refuse_if}
+use Rattle.completion.specs.Checks.{misplaced}
+use Rattle.completion.proofs.Faults.{fault_found}
 use Rattle.completion.proofs.checks.place_fault.Goals as goal
 
-pub returns-then-misplaced : goal.returns-then-misplaced
-returns-then-misplaced c =
-    sym (first_here (place_fault c.args.size c.args.set.now) c.loop-i.i _ _ c.loop-i.invariant
-    (ap (λ (b : Bool). refuse_if b BadList c.loop-i.i) (sym c.if-misplaced.ensures) ∙ ap Some (sym c.new.ensures)) c.loop-i-test.true)
-
-pub loop-i-preserved : goal.loop-i-preserved
-loop-i-preserved c =
-    none_more (place_fault c.args.size c.args.set.now) c.loop-i.i c.loop-i.invariant
-    (ap (λ (b : Bool). refuse_if b BadList c.loop-i.i) (sym c.if-misplaced.ensures))
+pub returns : goal.returns
+returns c =
+    let test = λ (i : ℕ). misplaced c.args.size c.args.set.now i in
+    fault_found test (λ i. refused BadList Walk i) (length c.args.set.now) _ c.find.result c.map.result
+    (first_from_Range _ _ _ c.find.result (λ i. test i ≡ true) (λ i. test i ≡ false) c.find.ensures.ran (λ x q k. search (rules, tests)) (λ x q k. search (rules, tests)))
+    c.map.ensures.cases (λ i x k. search rules)

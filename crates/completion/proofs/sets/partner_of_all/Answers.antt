@@ -1,11 +1,12 @@
-use Rattle.std.proofs.Common.{sym, arith, rules}
-use Rattle.completion.proofs.Lists.{every_yes, every_no}
+use Rattle.std.proofs.Common.{rules, ◌∙◌}
+use borrow.Author.Tests.{tests}
+use Rattle.std.proofs.lemmas.Iterator.{YieldsList-from_slice}
+use Rattle.std.proofs.lemmas.Iterator.Search.{all_from_yields_List}
+use Rattle.completion.proofs.Chains.{all_every}
 use Rattle.completion.proofs.sets.partner_of_all.Goals as goal
-
-pub returns-then-not-partners : goal.returns-then-not-partners
-returns-then-not-partners g c =
-    sym (every_no ((g.T.PairTable.meaning c.args.table.now).partners c.args.w) c.args.set.now c.loop-i.i (search rules) (search rules))
 
 pub returns : goal.returns
 returns g c =
-    sym (every_yes ((g.T.PairTable.meaning c.args.table.now).partners c.args.w) c.args.set.now (λ k h. c.loop-i.invariant k (omega arith)))
+    let p = (g.T.PairTable.meaning c.args.table.now).partners c.args.w in
+    all_from_yields_List p _ _ _ c.all.ensures.ran (YieldsList-from_slice c.args.set.now cc) (λ x b q k. search (rules, tests))
+    ∙ all_every p c.args.set.now

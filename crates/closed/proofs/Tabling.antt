@@ -1,13 +1,15 @@
 -- A book that was read closes, and tells what its bytes say.
-use Rattle.std.proofs.Common.{◌≡◌, ℕ, zero, suc, ◌<◌, ◌≤◌, Bool, true, false, cond, not, ◌&&◌, ◌||◌, eqb, ltb, List, [], ◌∷◌, ◌++◌, length, get_or, take, None, Ok, Option, Result, sym, refl, ap, ◌∙◌, append_assoc, arith}
+use Rattle.std.proofs.Common.{◌≡◌, ℕ, zero, suc, ◌<◌, ◌≤◌, Bool, true, false, not, ◌&&◌, eqb, List, [], ◌∷◌, ◌++◌, length, get_or, take, None, Ok, Err, Option, Result, sym, refl, ap, ◌∙◌, append_assoc, inl, inr, arith}
 use Rattle.std.proofs.lemmas.List.{append-nil, get_or_past}
-use Rattle.std.proofs.lemmas.Bool.{eqb-false, eqb-true, ltb-false, ltb-true, or_from, or_parts}
+use Rattle.std.proofs.lemmas.Bool.{cases_lt, le-ltb}
+use Rattle.std.proofs.lemmas.Bool.Decides.{nat_tests}
 use Rattle.std.specs.Option.{option_or}
 use Rattle.refusal.specs.declared.Refusal.{Refusal}
 use Rattle.format.specs.declared.card.Card.{Card}
 use Rattle.format.specs.Grammar.{Terms, by_pairs, by_rule, Contents, EachAfter, GoodCard, WellFormed, on_card, said_pair}
-use Rattle.format.specs.Records.{card_ok, stamp_ok}
+use Rattle.format.specs.Records.{card_ok}
 use Rattle.format.specs.Theorems.{pairs_in, rule_in}
+use Rattle.format.proofs.Logic.{err_ok}
 use Rattle.pairs.specs.Checks.{first_fault}
 use Rattle.book.specs.declared.open.OpenBook.{OpenBook}
 use Rattle.book.specs.Changes.{short_spaces}
@@ -15,10 +17,11 @@ use Rattle.book.specs.Marks.{tells}
 use Rattle.book.specs.Reading.{Holds}
 use Rattle.book.specs.Spaces.{no_card, stamp_at, too_short}
 use Rattle.book.proofs.Pairs.{tells_marked}
-use Rattle.closed.specs.Closes.{Plain, card_fault, close_fault, closing, kind_of}
+use Rattle.closed.specs.declared.books.ClosedBook.{ClosedBook}
+use Rattle.closed.specs.Closes.{Plain, card_fault, close_fault, closing, kind_of, plain, plain_of}
 use Rattle.closed.specs.Tables.{agree, below, size_of, stamp_told, tells_apart}
 use Rattle.closed.specs.Tells.{Tells, by_terms}
-use Rattle.closed.proofs.Stamps.{fine, made, told}
+use Rattle.closed.proofs.Stamps.{fine, told}
 
 -- each card of a well-formed book is in range and has a stamp of its own
 good_at : (ds before : List Card) (k : ℕ) → EachAfter GoodCard before ds → k < length ds → (card_ok (get_or ds k no_card) ≡ true) × (on_card (before ++ take k ds) (stamp_at ds k) ≡ false)
@@ -38,22 +41,13 @@ no_fault cs h = none_below (card_fault cs) (length cs) (λ p l. let g = good_at 
 -- what is marked among the cards of a book is what is said
 marks_tell : (n : ℕ) (t : ℕ → ℕ → Bool) (s : ℕ → ℕ → Bool) → ((u : ℕ) → t u u ≡ false) → ((u v : ℕ) → u < n → v < n → (u ≡ v → ⊥) → t u v ≡ s u v)
     → (u v : ℕ) → below n u v && t u v ≡ below n u v && (not (eqb u v) && s u v)
-marks_tell n t s apart same u v = go (ltb u n) refl (ltb v n) refl (eqb u v) refl
-  where
-    go : (a : Bool) → ltb u n ≡ a → (b : Bool) → ltb v n ≡ b → (e : Bool) → eqb u v ≡ e → (a && b) && t u v ≡ (a && b) && (not e && s u v)
-    go true p true q true e = ap (t u) (sym (eqb-true u v e)) ∙ apart u
-    go true p true q false e = same u v (ltb-true u n p) (ltb-true v n q) (eqb-false u v e)
-    go true p false q e i = refl
-    go false p b q e i = refl
+marks_tell n t s apart same u v = grind (arith, nat_tests, apart, same)
 
 stamps_told : (cs : List Card) → length cs ≤ 256 → close_fault cs ≡ None → (u : ℕ) → stamp_told cs u ≡ stamp_at cs u
-stamps_told cs few e u = go (ltb u (size_of cs)) refl
-  where
-    go : (a : Bool) → ltb u (size_of cs) ≡ a → stamp_told cs u ≡ stamp_at cs u
-    go true t = told cs e u (ltb-true _ _ t)
-    go false t =
-        let l : length cs ≤ u = omega (arith, ltb-false _ _ t) in
-        ap (λ a. cond a (cond (stamp_ok (stamp_at cs u) && not (on_card (take u cs) (stamp_at cs u))) (stamp_at cs u) 0) 0) t ∙ sym (ap (λ c. c.stamp) (get_or_past cs u no_card l))
+stamps_told cs few e u = elim (cases_lt u (length cs)) [
+  | inl l ↦ told cs e u (omega arith)
+  | inr l ↦ rw (le-ltb u (size_of cs) (omega arith)) (sym (ap (λ c. c.stamp) (get_or_past cs u no_card l)))
+]
 
 module _ (b : Contents) (w : WellFormed b) (o : OpenBook) (cs : List Card) (ms : List ℕ) (h : Holds b o cs ms) where
   size_is : size_of b.cards ≡ length b.cards
@@ -86,17 +80,13 @@ module _ (b : Contents) (w : WellFormed b) (o : OpenBook) (cs : List Card) (ms :
   }
 
   pub closes : short_spaces (length cs) (length ms) ≡ false → (p : Plain) × (closing o cs ms ≡ Ok p) × Tells b p
-  closes s = (
-    kind_of (rule_in b.terms) o b.cards ms,
-    sym (made o cs b.cards ms (rule_in b.terms) s (sym h.cards) (sym h.rule) clean),
-    tells_by b.terms refl,
-  )
+  closes s = (kind_of (rule_in b.terms) o b.cards ms, rw (s, h.cards, clean, h.rule), tells_by b.terms refl)
 
 -- spaces long enough for a reading are long enough to close
 pub long_enough : (cards marks index : ℕ) → too_short cards marks index ≡ false → short_spaces cards marks ≡ false
-long_enough cards marks index e =
-    let p = or_parts (ltb cards 256) (ltb marks 4080 || ltb index 256) e in
-    or_from _ _ p.0 (or_parts (ltb marks 4080) (ltb index 256) p.1).0
+long_enough cards marks index e = grind (arith, nat_tests)
 
-pub same_ok : {X Y : Type 0} {a b : X} → ◌≡◌ {A = Result X Y} (Ok a) (Ok b) → a ≡ b
-same_ok p = cc
+-- a book that closes, and what it is then
+pub closed_as : (r : Result ClosedBook (Refusal × OpenBook)) (p : Plain) → plain_of r ≡ Ok p → (t : ClosedBook) × (r ≡ Ok t) × (plain t ≡ p)
+closed_as (Ok t) p e = (t, refl, cc)
+closed_as (Err x) p e = err_ok e

@@ -33,8 +33,8 @@ pub data Plain : Type 0 where
   by_rule : OpenBook → Rule → List Card → Plain
 
 abbrev pub plain : ClosedBook → Plain
-plain (Pairs b) = by_marks b.book b.cards.now b.marks.now
-plain (Ruled b) = by_rule b.book b.rule b.cards.now
+plain (Pairs b) = by_marks b.book b.cards.now b.terms.bytes.now
+plain (Ruled b) = by_rule b.book b.terms b.cards.now
 
 abbrev pub plain_of : Result ClosedBook (Refusal × OpenBook) → Result Plain (Refusal × OpenBook)
 plain_of (Ok b) = Ok (plain b)

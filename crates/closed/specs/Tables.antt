@@ -1,7 +1,10 @@
 -- What closed books tell: partners by pair marks or under a rule, and stamps; with the laws of pair tables.
-use Rattle.std.specs.Prelude.{◌≡◌, ℕ, zero, suc, ◌+◌, ◌<◌, ◌≤◌, min, Bool, true, false, cond, not, ◌&&◌, ◌||◌, List, [], ◌∷◌, length, take, ℤ, pos, ◌+ℤ◌, ◌==◌, ◌≢◌, int_le, nat_le, nat_lt, slice_index_or, refl}
-use Rattle.std.proofs.Common.{sym, ◌∙◌, ap, arith, eq-eqb, eqb-true, ltb-false, ltb-true, ne_eqb}
-use Rattle.std.proofs.lemmas.Bool.{eqb-false}
+use Rattle.std.specs.Prelude.{◌≡◌, ℕ, ◌+◌, ◌<◌, ◌≤◌, min, Bool, true, false, cond, not, ◌&&◌, List, length, take, ℤ, pos, ◌+ℤ◌, ◌==◌, ◌≢◌, int_le, nat_le, nat_lt, slice_index_or, refl}
+use Rattle.std.proofs.Common.{sym, ◌∙◌, ap, arith, eq-eqb, eqb-true, ltb-true, ne_eqb}
+use Rattle.std.proofs.Math.Bool.{and-false, and_comm}
+use Rattle.std.proofs.lemmas.Bool.{eqb-false, le-ltb, true≢false}
+use Rattle.std.proofs.lemmas.List.{get_or-take, length-take}
+use Rattle.std.proofs.lemmas.List.Recursion.{or_at}
 use Rattle.cliques.specs.Graph.{Graph, Lawful}
 use Rattle.format.specs.declared.card.Card.{Card}
 use Rattle.format.specs.declared.card.Rule.{Rule}
@@ -19,6 +22,10 @@ size_of cs = min (length cs) 256
 abbrev pub below : ℕ → ℕ → ℕ → Bool
 below n u v = nat_lt u n && nat_lt v n
 
+-- the table of the places that have cards, in which the test tells partners
+abbrev pub table_of : List Card → (ℕ → ℕ → Bool) → Graph
+table_of cs told = record { size = size_of cs; partners = λ u v. below (size_of cs) u v && told u v }
+
 -- partners by pair marks
 abbrev pub pair_graph : List Card → List ℕ → Graph
 pair_graph cs ms = record { size = size_of cs; partners = λ u v. below (size_of cs) u v && tells ms u v }
@@ -35,6 +42,10 @@ abbrev pub agree : Rule → Card → Card → Bool
 agree r c d = (not (c.diameter == 0) && not (d.diameter == 0))
     && (c.family == d.family && (near r.diameter c.diameter d.diameter && near_crowns r.crown c.crown d.crown))
 
+-- two different places whose cards agree under the rule
+abbrev pub apart_agreeing : Rule → List Card → ℕ → ℕ → Bool
+apart_agreeing r cs u v = not (u == v) && agree r (slice_index_or cs u no_card) (slice_index_or cs v no_card)
+
 -- partners under a rule: never a roll with itself
 abbrev pub rule_graph : List Card → Rule → Graph
 rule_graph cs r = record { size = size_of cs; partners = λ u v. below (size_of cs) u v && (not (u == v) && agree r (slice_index_or cs u no_card) (slice_index_or cs v no_card)) }
@@ -44,20 +55,6 @@ abbrev pub stamp_told : List Card → ℕ → ℕ
 stamp_told cs u = cond (nat_lt u (size_of cs)) (cond (stamp_ok (stamp_at cs u) && not (on_card (take u cs) (stamp_at cs u))) (stamp_at cs u) 0) 0
 
 -- ---- the laws
-
-and_swap : (a b : Bool) → (a && b) ≡ (b && a)
-and_swap true true = refl
-and_swap true false = refl
-and_swap false true = refl
-and_swap false false = refl
-
-off : (a b x : Bool) → (a ≢ true) → (a && b) && x ≡ false
-off true b x h = absurd (h refl)
-off false b x h = refl
-
-none : (a : Bool) → a && false ≡ false
-none true = refl
-none false = refl
 
 eqb_swap : (u v : ℕ) → (u == v) ≡ (v == u)
 eqb_swap u v = go (u == v) refl
@@ -70,9 +67,9 @@ eqb_swap u v = go (u == v) refl
 lawful_below : (n : ℕ) (p : ℕ → ℕ → Bool) → n ≤ 256 → ((u v : ℕ) → p u v ≡ p v u) → ((u : ℕ) → p u u ≡ false) → Lawful (record { size = n; partners = λ u v. below n u v && p u v })
 lawful_below n p h s a = record {
   few = h;
-  both = λ u v i. and_swap (nat_lt u n) (nat_lt v n) i && s u v i;
-  apart = λ u. ap (λ b. below n u u && b) (a u) ∙ none (below n u u);
-  within = λ u v l. off (nat_lt u n) (nat_lt v n) (p u v) (λ q. omega (arith, ltb-true u n q));
+  both = λ u v i. and_comm (nat_lt u n) (nat_lt v n) i && s u v i;
+  apart = λ u. ap (λ b. below n u u && b) (a u) ∙ and-false (below n u u);
+  within = λ u v l. ap (λ b. (b && nat_lt v n) && p u v) (le-ltb u n l);
 }
 
 size_few : (cs : List Card) → size_of cs ≤ 256
@@ -89,34 +86,27 @@ pub pairs_lawful : (cs : List Card) (ms : List ℕ) → Lawful (pair_graph cs ms
 pairs_lawful cs ms = lawful_below (size_of cs) (tells ms) (size_few cs) (tells_swap ms) (tells_apart ms)
 
 agree_swap : (r : Rule) (c d : Card) → agree r c d ≡ agree r d c
-agree_swap r c d = λ i. and_swap (not (c.diameter == 0)) (not (d.diameter == 0)) i && (eqb_swap c.family d.family i
-    && (and_swap (nat_le c.diameter (d.diameter + r.diameter)) (nat_le d.diameter (c.diameter + r.diameter)) i
-    && and_swap (int_le c.crown (d.crown +ℤ pos r.crown)) (int_le d.crown (c.crown +ℤ pos r.crown)) i))
+agree_swap r c d = λ i. and_comm (not (c.diameter == 0)) (not (d.diameter == 0)) i && (eqb_swap c.family d.family i
+    && (and_comm (nat_le c.diameter (d.diameter + r.diameter)) (nat_le d.diameter (c.diameter + r.diameter)) i
+    && and_comm (int_le c.crown (d.crown +ℤ pos r.crown)) (int_le d.crown (c.crown +ℤ pos r.crown)) i))
 
 pub rule_lawful : (cs : List Card) (r : Rule) → Lawful (rule_graph cs r)
-rule_lawful cs r = lawful_below (size_of cs) (λ u v. not (u == v) && agree r (slice_index_or cs u no_card) (slice_index_or cs v no_card)) (size_few cs)
+rule_lawful cs r = lawful_below (size_of cs) (apart_agreeing r cs) (size_few cs)
     (λ u v i. not (eqb_swap u v i) && agree_swap r (slice_index_or cs u no_card) (slice_index_or cs v no_card) i)
     (λ u. ap (λ b. not b && agree r (slice_index_or cs u no_card) (slice_index_or cs u no_card)) (eq-eqb u u refl))
 
 -- a card's stamp is among those of any longer front
 on_front : (cs : List Card) (u v : ℕ) → u < v → u < length cs → on_card (take v cs) (stamp_at cs u) ≡ true
-on_front [] u v l k = absurd (omega arith)
-on_front (c ∷ cs) u zero l k = absurd (omega arith)
-on_front (c ∷ cs) zero (suc v) l k = ap (λ b. b || on_card (take v cs) c.stamp) (eq-eqb c.stamp c.stamp refl)
-on_front (c ∷ cs) (suc u) (suc v) l k = later (c.stamp == stamp_at cs u) (on_card (take v cs) (stamp_at cs u)) (on_front cs u v (omega arith) (omega arith))
-  where
-    later : (a b : Bool) → b ≡ true → (a || b) ≡ true
-    later true b e = refl
-    later false b e = e
+on_front cs u v l k =
+    let s = stamp_at cs u in
+    let short : u < length (take v cs) = omega (arith, length-take v cs) in
+    or_at (λ ds. on_card ds s) (λ (c : Card). c.stamp == s) refl (λ _ _. refl) (take v cs) u no_card short (eq-eqb _ _ (ap (λ c. c.stamp) (get_or-take v cs u no_card l)))
 
 tells_own : (a b c : Bool) (s : ℕ) → (cond a (cond (b && not c) s 0) 0 ≢ 0) → (a ≡ true) × (c ≡ false) × (cond a (cond (b && not c) s 0) 0 ≡ s)
 tells_own true true true s h = absurd (h refl)
 tells_own true true false s h = (refl, refl, refl)
 tells_own true false c s h = absurd (h refl)
 tells_own false b c s h = absurd (h refl)
-
-truth : true ≡ false → ⊥
-truth p = let z : ◌≡◌ {A = ℕ} 0 1 = cc in omega arith
 
 -- the same stamp at an earlier place would have been told there
 earlier : (cs : List Card) (u v : ℕ) → u < v → stamp_told cs u ≡ stamp_told cs v → (stamp_told cs u ≢ 0) → ⊥
@@ -125,12 +115,10 @@ earlier cs u v l e nz =
     let q = tells_own (nat_lt v (size_of cs)) (stamp_ok (stamp_at cs v)) (on_card (take v cs) (stamp_at cs v)) (stamp_at cs v) (λ z. nz (e ∙ z)) in
     let s : stamp_at cs u ≡ stamp_at cs v = sym p.2 ∙ e ∙ q.2 in
     let k : u < length cs = omega (arith, ltb-true u (size_of cs) p.0) in
-    truth (sym (on_front cs u v l k) ∙ ap (on_card (take v cs)) s ∙ q.1)
+    true≢false (sym (on_front cs u v l k) ∙ ap (on_card (take v cs)) s ∙ q.1)
 
 pub stamps_distinct : (cs : List Card) → Distinct (stamp_told cs)
-stamps_distinct cs u v e nz = go (nat_lt u v) refl (nat_lt v u) refl
-  where
-    go : (a : Bool) → nat_lt u v ≡ a → (b : Bool) → nat_lt v u ≡ b → u ≡ v
-    go true p b q = absurd (earlier cs u v (ltb-true u v p) e nz)
-    go false p true q = absurd (earlier cs v u (ltb-true v u q) (sym e) (λ z. nz (e ∙ z)))
-    go false p false q = omega (arith, ltb-false u v p, ltb-false v u q)
+stamps_distinct cs u v e nz =
+    let not-below : u < v → ⊥ = λ l. earlier cs u v l e nz in
+    let not-above : v < u → ⊥ = λ l. earlier cs v u l (sym e) (λ z. nz (e ∙ z)) in
+    omega (arith, not-below, not-above)

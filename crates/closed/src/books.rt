@@ -3,21 +3,25 @@
 use book::OpenBook;
 use format::{Card, Rule};
 
-/// A closed book whose partners are marked.
+/// A book that is closed over its cards, with the terms by which two rolls are partners.
 #[derive(Drop)]
-pub struct PairBook<'a> {
+pub struct Closed<'a, T> {
     pub(crate) book: OpenBook,
     pub(crate) cards: &'a [Card],
-    pub(crate) marks: &'a [u8],
+    pub(crate) terms: T,
 }
 
-/// A closed book whose partners follow from a rule.
+/// Pair marks, in the memory that holds them.
 #[derive(Drop)]
-pub struct RuleBook<'a> {
-    pub(crate) book: OpenBook,
-    pub(crate) rule: Rule,
-    pub(crate) cards: &'a [Card],
+pub struct Marks<'a> {
+    pub(crate) bytes: &'a [u8],
 }
+
+/// A closed book whose partners are marked.
+pub type PairBook<'a> = Closed<'a, Marks<'a>>;
+
+/// A closed book whose partners follow from a rule.
+pub type RuleBook<'a> = Closed<'a, Rule>;
 
 /// A closed book of either kind. It may be listed and not changed; `open` gives the open book back.
 #[derive(Drop)]

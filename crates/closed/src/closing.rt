@@ -1,38 +1,34 @@
 //! Closing a book and opening it again.
 
-ghost use Rattle.closed.specs.Closes.{StampsTold, book_in, cards_in, close_fault, closing, plain, plain_of};
-ghost use Rattle.std.specs.Prelude.{◌≡◌, false, take, IfOk, if◌then◌else◌, nat_lt, slice_index_or};
+ghost use Rattle.closed.specs.Closes.{StampsTold, book_in, card_fault, cards_in, close_fault, closing, plain, plain_of};
+ghost use Rattle.std.specs.Prelude.{◌≡◌, ◌<◌, false, length, IfOk, if◌then◌else◌, nat_lt, slice_index_or};
 
-use crate::books::{ClosedBook, PairBook, RuleBook};
+use crate::books::{Closed, ClosedBook, Marks, RuleBook};
 use crate::cards::has_stamp;
 use book::{OpenBook, short_spaces};
 use format::{Card, Rule};
 use refusal::{Layer, Reason, Refusal};
 
-// The first card that is out of range or has the stamp of an earlier one.
+// What is wrong with the card at a place: it is out of range, or has the stamp of an earlier one.
+fn card_fault(cards: &[Card], place: usize) -> Option<Refusal>
+    requires { place < length cards.now }
+    ensures { result ≡ card_fault cards.now place }
+{
+    let card = cards[place];
+    if !card.in_range() {
+        Some(Refusal::new(Reason::OutOfRange, Layer::Book, place))
+    } else if has_stamp(&cards[..place], card.stamp) {
+        Some(Refusal::new(Reason::DuplicateStamp, Layer::Book, place))
+    } else {
+        None
+    }
+}
+
+// The fault of the first card that has one.
 fn first_fault(cards: &[Card]) -> Option<Refusal>
     ensures { result ≡ close_fault cards.now }
 {
-    for (place, card) in cards.iter().enumerate() {
-        if !card.in_range() {
-            return Some(Refusal::new(Reason::OutOfRange, Layer::Book, place));
-        }
-        if has_stamp(&cards[0..place], card.stamp) {
-            return Some(Refusal::new(Reason::DuplicateStamp, Layer::Book, place));
-        }
-    }
-    None
-}
-
-// The cards of a book among those lent.
-fn cards_of<'a>(count: usize, cards: &'a [Card]) -> &'a [Card]
-    ensures { result.now ≡ take count cards.now }
-{
-    if count < cards.len() {
-        &cards[0..count]
-    } else {
-        cards
-    }
+    (0..cards.len()).find_map(|place| card_fault(cards, place))
 }
 
 /// Closes a book over the spaces that hold its cards and marks, which are taken as found.
@@ -50,14 +46,18 @@ pub fn close<'a>(
     if short_spaces(cards, marks) {
         return Err((Refusal::new(Reason::ShortSpace, Layer::Book, 0), book));
     }
-    let cards = cards_of(book.count(), cards);
-    match first_fault(cards) {
-        Some(refusal) => Err((refusal, book)),
-        None => match book.rule() {
-            Some(rule) => Ok(ClosedBook::Ruled(RuleBook { book, rule, cards })),
-            None => Ok(ClosedBook::Pairs(PairBook { book, cards, marks })),
-        },
+    let cards = &cards[..book.count().min(cards.len())];
+    if let Some(refusal) = first_fault(cards) {
+        return Err((refusal, book));
     }
+    Ok(match book.rule() {
+        Some(terms) => ClosedBook::Ruled(Closed { book, cards, terms }),
+        None => ClosedBook::Pairs(Closed {
+            book,
+            cards,
+            terms: Marks { bytes: marks },
+        }),
+    })
 }
 
 impl<'a> ClosedBook<'a> {
@@ -66,20 +66,7 @@ impl<'a> ClosedBook<'a> {
         ensures { result ≡ book_in (plain self.entry) }
     {
         match self {
-            ClosedBook::Pairs(
-                PairBook {
-                    book,
-                    cards: _,
-                    marks: _,
-                },
-            ) => book,
-            ClosedBook::Ruled(
-                RuleBook {
-                    book,
-                    rule: _,
-                    cards: _,
-                },
-            ) => book,
+            ClosedBook::Pairs(Closed { book, .. }) | ClosedBook::Ruled(Closed { book, .. }) => book,
         }
     }
 
@@ -88,8 +75,8 @@ impl<'a> ClosedBook<'a> {
         ensures { result.now ≡ cards_in (plain self.now) }
     {
         match self {
-            ClosedBook::Pairs(book) => book.cards,
-            ClosedBook::Ruled(book) => book.cards,
+            ClosedBook::Pairs(Closed { cards, .. }) | ClosedBook::Ruled(Closed { cards, .. }) =>
+                cards,
         }
     }
 
@@ -98,8 +85,8 @@ impl<'a> ClosedBook<'a> {
         ensures { result ≡ (if nat_lt place 256 then slice_index_or (book_in (plain self.now)).notes.withdrawn place false else false) }
     {
         match self {
-            ClosedBook::Pairs(closed) => closed.book.is_withdrawn(place),
-            ClosedBook::Ruled(closed) => closed.book.is_withdrawn(place),
+            ClosedBook::Pairs(Closed { book, .. }) | ClosedBook::Ruled(Closed { book, .. }) =>
+                book.is_withdrawn(place),
         }
     }
 }
@@ -107,8 +94,8 @@ impl<'a> ClosedBook<'a> {
 impl RuleBook<'_> {
     /// The rule by which rolls are partners.
     pub fn rule(&self) -> Rule
-        ensures { result ≡ self.now.rule }
+        ensures { result ≡ self.now.terms }
     {
-        self.rule
+        self.terms
     }
 }

@@ -1,9 +1,10 @@
 //! Reading a book and closing it at once.
 
-ghost use Rattle.book.specs.Reading.{IndexAfter, outcome};
+ghost use Rattle.book.specs.Reading.{IndexAfter, answer_of, outcome};
 ghost use Rattle.book.specs.Spaces.{too_short};
+ghost use Rattle.closed.specs.Closes.{book_in, plain};
 ghost use Rattle.closed.specs.Tells.{ReadsClosed};
-ghost use Rattle.std.specs.Prelude.{length};
+ghost use Rattle.std.specs.Prelude.{◌≡◌, length, IfOk};
 
 use crate::books::ClosedBook;
 use crate::closing::close;
@@ -20,11 +21,9 @@ pub fn read_closed<'a>(
     index: &mut [IndexRecord],
 ) -> Result<ClosedBook<'a>, Refusal>
     ensures table { ReadsClosed bytes.now (too_short (length cards.old) (length marks.old) (length index.old)) result }
+    ensures book { IfOk result (λ t. Ok (book_in (plain t)) ≡ answer_of (outcome bytes.now (too_short (length cards.old) (length marks.old) (length index.old)))) }
     ensures index { IndexAfter (outcome bytes.now (too_short (length cards.old) (length marks.old) (length index.old))) index.old index.new }
 {
     let book = read(bytes, cards, marks, index)?;
-    match close(book, cards, marks) {
-        Ok(closed) => Ok(closed),
-        Err((refusal, _)) => Err(refusal),
-    }
+    close(book, cards, marks).map_err(|(refusal, _)| refusal)
 }

@@ -1,16 +1,55 @@
 //! Closed books as pair tables with stamps.
 
-ghost use Rattle.closed.specs.Tables.{pair_graph, pairs_lawful, rule_graph, rule_lawful, stamp_told, stamps_distinct};
+ghost use Rattle.cliques.specs.Graph.{Lawful};
+ghost use Rattle.closed.specs.Tables.{apart_agreeing, pairs_lawful, rule_lawful, stamp_told, stamps_distinct, table_of};
+ghost use Rattle.book.specs.Marks.{tells};
+ghost use Rattle.format.specs.declared.card.Card.{Card};
+ghost use Rattle.std.specs.Prelude.{◌≡◌, ℕ, ◌<◌, Bool, List, length};
 
-use crate::books::{PairBook, RuleBook};
+use crate::books::{Closed, Marks};
 use crate::cards::{agreeing, size_of, stamp_of};
 use book::is_marked;
+use format::{Card, Rule};
 use pairs::{PairTable, Stamped};
 
-impl PairTable for PairBook<'_> {
-    ghost meaning = { λ t. pair_graph t.cards.now t.marks.now };
+// By what two rolls of a book are partners.
+pub(crate) trait Terms {
+    // Whether two places are told to be partners, by the cards of the book.
+    ghost told: { Self → List Card → ℕ → ℕ → Bool };
 
-    ghost lawful = { λ t. pairs_lawful t.cards.now t.marks.now };
+    // Asked of the places that have cards, this makes a lawful table.
+    ghost lawful: { (terms : Self) (cards : List Card) → Lawful (table_of cards (told terms cards)) };
+
+    fn tell(&self, cards: &[Card], u: usize, v: usize) -> bool
+        requires first { u < length cards.now }
+        requires second { v < length cards.now }
+        ensures { result ≡ told self.now cards.now u v };
+}
+
+impl Terms for Marks<'_> {
+    ghost told = { λ marks cards. tells marks.bytes.now };
+
+    ghost lawful = { λ marks cards. pairs_lawful cards marks.bytes.now };
+
+    fn tell(&self, _cards: &[Card], u: usize, v: usize) -> bool {
+        is_marked(self.bytes, u, v)
+    }
+}
+
+impl Terms for Rule {
+    ghost told = { λ rule cards. apart_agreeing rule cards };
+
+    ghost lawful = { λ rule cards. rule_lawful cards rule };
+
+    fn tell(&self, cards: &[Card], u: usize, v: usize) -> bool {
+        u != v && agreeing(*self, cards[u], cards[v])
+    }
+}
+
+impl<T: Terms> PairTable for Closed<'_, T> {
+    ghost meaning = { λ t. table_of t.cards.now (T.Terms.told t.terms t.cards.now) };
+
+    ghost lawful = { λ t. T.Terms.lawful t.terms t.cards.now };
 
     fn size(&self) -> usize {
         size_of(self.cards)
@@ -18,36 +57,11 @@ impl PairTable for PairBook<'_> {
 
     fn partners(&self, u: usize, v: usize) -> bool {
         let size = size_of(self.cards);
-        u < size && v < size && is_marked(self.marks, u, v)
+        u < size && v < size && self.terms.tell(self.cards, u, v)
     }
 }
 
-impl Stamped for PairBook<'_> {
-    ghost stamps = { λ t. stamp_told t.cards.now };
-
-    ghost distinct = { λ t. stamps_distinct t.cards.now };
-
-    fn stamp(&self, u: usize) -> u16 {
-        stamp_of(self.cards, u)
-    }
-}
-
-impl PairTable for RuleBook<'_> {
-    ghost meaning = { λ t. rule_graph t.cards.now t.rule };
-
-    ghost lawful = { λ t. rule_lawful t.cards.now t.rule };
-
-    fn size(&self) -> usize {
-        size_of(self.cards)
-    }
-
-    fn partners(&self, u: usize, v: usize) -> bool {
-        let size = size_of(self.cards);
-        u < size && v < size && u != v && agreeing(self.rule, self.cards[u], self.cards[v])
-    }
-}
-
-impl Stamped for RuleBook<'_> {
+impl<T: Terms> Stamped for Closed<'_, T> {
     ghost stamps = { λ t. stamp_told t.cards.now };
 
     ghost distinct = { λ t. stamps_distinct t.cards.now };

@@ -1,16 +1,14 @@
 -- Sums and counts over the numbers below a bound.
-use Rattle.std.proofs.Common.{◌≡◌, ℕ, zero, suc, ◌+◌, ◌<◌, ◌≤◌, Bool, true, false, cond, sym, refl, ap, ◌∙◌, inl, inr, add-one, arith}
+use Rattle.std.proofs.Common.{◌≡◌, ℕ, zero, suc, ◌+◌, ◌<◌, ◌≤◌, Bool, true, false, cond, List, length, Option, get_or, take, sym, refl, ap, ◌∙◌, inl, inr, add-one, zero-add, arith}
 use Rattle.std.proofs.lemmas.Bool.{cases_eq}
+use Rattle.std.proofs.lemmas.List.{take_all}
+use Rattle.std.proofs.lemmas.List.FromFn.{get_or-range_with_len, length-range_with_len}
+use Rattle.std.proofs.lemmas.Iterator.{YieldsList}
+use Rattle.std.proofs.lemmas.Iterator.Consumers.{count_from_yields_List}
+use Rattle.std.proofs.lemmas.List.Sums.{length-filter, sum_by_more}
+use Rattle.std.specs.Iterator.{Drains}
+use Rattle.std.specs.List.{filter, range_with_len, sum_by}
 use Rattle.summary.specs.Summing.{count_to, sum_to}
-
-pub sum_more : (f : ℕ → ℕ) (n : ℕ) → sum_to f (n + 1) ≡ sum_to f n + f n
-sum_more f n = rw add-one
-
-pub count_yes : (p : ℕ → Bool) (n : ℕ) → p n ≡ true → count_to p (n + 1) ≡ count_to p n + 1
-count_yes p n e = sum_more (λ k. cond (p k) 1 0) n ∙ ap (λ b. count_to p n + cond b 1 0) e
-
-pub count_no : (p : ℕ → Bool) (n : ℕ) → p n ≡ false → count_to p (n + 1) ≡ count_to p n
-count_no p n e = sum_more (λ k. cond (p k) 1 0) n ∙ ap (λ b. count_to p n + cond b 1 0) e ∙ omega arith
 
 -- equal terms have equal sums
 pub sum_same : (f g : ℕ → ℕ) (n : ℕ) → ((k : ℕ) → k < n → f k ≡ g k) → sum_to f n ≡ sum_to g n
@@ -42,9 +40,21 @@ count_none p (suc n) h =
     let a : count_to p n ≡ 0 = count_none p n (λ k l. h k (omega arith)) in
     (λ i. a i + cond (h n (omega arith) i) 1 0)
 
--- the turns of a loop that counts
-pub counted_yes : (p : ℕ → Bool) (i n m : ℕ) → m ≡ n + 1 → p i ≡ true → (n ≡ count_to p i) × (n ≤ i) → (m ≡ count_to p (i + 1)) × (m ≤ i + 1)
-counted_yes p i n m e t h = (e ∙ ap (λ k. k + 1) h.0 ∙ sym (count_yes p i t), omega (arith, h.1))
+-- what is counted of a list, and of the numbers below a bound
+module _ {X : Type 0} (f : X → ℕ) (xs : List X) (d : X) where
+  front_sum : (k : ℕ) → k ≤ length xs → sum_by f (take k xs) ≡ sum_to (λ u. f (get_or xs u d)) k
+  front_sum zero h = refl
+  front_sum (suc k) h = (rw add-one at (sum_by_more f xs k d (omega arith))) ∙ ap (λ n. n + f (get_or xs k d)) (front_sum k (omega arith))
 
-pub counted_no : (p : ℕ → Bool) (i n m : ℕ) → m ≡ n → p i ≡ false → (n ≡ count_to p i) × (n ≤ i) → (m ≡ count_to p (i + 1)) × (m ≤ i + 1)
-counted_no p i n m e t h = (e ∙ h.0 ∙ sym (count_no p i t), omega (arith, h.1))
+  pub list_sum : sum_by f xs ≡ sum_to (λ u. f (get_or xs u d)) (length xs)
+  list_sum = ap (sum_by f) (sym (take_all (length xs) xs (omega arith))) ∙ front_sum (length xs) (omega arith)
+
+pub range_sum : (f : ℕ → ℕ) (n : ℕ) → sum_by f (range_with_len 0 n) ≡ sum_to f n
+range_sum f n =
+    let xs = range_with_len 0 n in
+    list_sum f xs 0 ∙ ap (sum_to (λ u. f (get_or xs u 0))) (length-range_with_len 0 n) ∙ sum_same (λ u. f (get_or xs u 0)) f n (λ k l. ap f (get_or-range_with_len 0 n k 0 l ∙ zero-add k))
+
+-- what `filter` and `count` give over the numbers below n
+pub range_count : {S : Type 0} {steps : S → Option ℕ → S → Type 0} {s : S} {r : ℕ} (p : ℕ → Bool) (n : ℕ)
+    → (xs : List ℕ) × Drains steps s xs × (r ≡ length xs) → YieldsList steps (λ x. x) s (filter p (range_with_len 0 n)) → r ≡ count_to p n
+range_count {s = s} p n ran chain = count_from_yields_List s _ ran chain ∙ length-filter p (range_with_len 0 n) ∙ range_sum (λ u. cond (p u) 1 0) n

@@ -3,14 +3,14 @@
 use format::Rule;
 
 /// By what rolls are partners: how many pairs there are, or the rule.
-#[derive(Clone, Copy)]
+#[derive(Clone, Copy, PartialEq, Eq, Debug)]
 pub enum Terms {
     Pairs(usize),
     Rule(Rule),
 }
 
 /// What a book holds.
-#[derive(Clone, Copy)]
+#[derive(Clone, Copy, PartialEq, Eq, Debug)]
 pub struct Summary {
     /// How many cards.
     pub rolls: usize,

@@ -1,10 +1,12 @@
-use Rattle.std.proofs.Common.{sym, ◌∙◌}
-use Rattle.summary.proofs.Counts.{counted_yes, counted_no}
+use Rattle.std.proofs.Common.{ℕ, arith, rules}
+use borrow.Author.Tests.{tests}
+use Rattle.std.proofs.lemmas.Iterator.{YieldsList-from_range}
+use Rattle.std.proofs.lemmas.Iterator.Consumers.{YieldsList-from_filter}
+use Rattle.summary.proofs.Counts.{range_count}
 use Rattle.summary.proofs.counting.count_below.Goals as goal
-use Rattle.summary.proofs.counting.count_below.Goals.{then-partners, else-partners}
 
-pub loop-u-preserved : goal.loop-u-preserved
-loop-u-preserved g c = elim c.if-partners.branch [
-  | then-partners w ↦ counted_yes _ c.loop-u.u c.loop-u.count _ w.count-is (sym c.partners.ensures ∙ w.if-partners.true) c.loop-u.invariant
-  | else-partners w ↦ counted_no _ c.loop-u.u c.loop-u.count _ w.count-is (sym c.partners.ensures ∙ w.if-partners.false) c.loop-u.invariant
-]
+pub returns-clause-count : goal.returns-clause-count
+returns-clause-count g c =
+    let v = c.args.v in
+    let told = λ (u : ℕ). (g.T.PairTable.meaning c.args.table.now).partners u v in
+    range_count told v c.count.ensures.ran (YieldsList-from_filter _ told (YieldsList-from_range 0 v v (cc) (omega arith)) c.filter.ensures.closure (λ x b q k. search (rules, tests)))

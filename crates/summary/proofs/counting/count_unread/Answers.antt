@@ -1,10 +1,12 @@
-use Rattle.std.proofs.lemmas.Bool.{eq-eqb, ne_eqb}
-use Rattle.summary.proofs.Counts.{counted_yes, counted_no}
+use Rattle.std.proofs.Common.{◌≡◌, cond, eqb, ◌∙◌, rules}
+use Rattle.std.proofs.iter.runs.Made.{chains}
+use Rattle.std.specs.List.{count_by}
+use Rattle.format.specs.declared.card.Card.{Card}
+use Rattle.book.specs.Spaces.{no_card}
+use Rattle.summary.proofs.Counts.{list_sum}
 use Rattle.summary.proofs.counting.count_unread.Goals as goal
-use Rattle.summary.proofs.counting.count_unread.Goals.{then-card-eq0, else-card-eq0}
 
-pub loop-card-preserved : goal.loop-card-preserved
-loop-card-preserved c = elim c.if-card-eq0.branch [
-  | then-card-eq0 w ↦ counted_yes _ c.loop-card.card-index c.loop-card.count _ w.count-is (eq-eqb _ _ w.if-card-eq0.true) c.loop-card.invariant
-  | else-card-eq0 w ↦ counted_no _ c.loop-card.card-index c.loop-card.count _ w.count-is (ne_eqb _ _ w.if-card-eq0.false) c.loop-card.invariant
-]
+pub returns : goal.returns
+returns c =
+    let counted : c.count.result ≡ count_by (λ (card : Card). eqb card.diameter 0) c.args.cards.now = search (rules, chains) in
+    counted ∙ list_sum (λ (card : Card). cond (eqb card.diameter 0) 1 0) c.args.cards.now no_card

@@ -1,15 +1,16 @@
-use Rattle.std.proofs.Common.{◌<◌, false, cond, get_or, sym, ap, ◌∙◌, arith}
+use Rattle.std.proofs.Common.{ℕ, ◌<◌, false, cond, get_or, ltb, ap, ◌∙◌, arith, rules}
+use borrow.Author.Tests.{tests}
 use Rattle.std.proofs.lemmas.Bool.{lt-ltb}
+use Rattle.std.proofs.lemmas.Iterator.{YieldsList-from_range}
+use Rattle.std.proofs.lemmas.Iterator.Consumers.{YieldsList-from_filter}
 use Rattle.closed.specs.Closes.{book_in, plain}
-use Rattle.summary.proofs.Counts.{counted_yes, counted_no}
+use Rattle.summary.proofs.Counts.{count_same, range_count}
 use Rattle.summary.proofs.counting.count_withdrawn.Goals as goal
-use Rattle.summary.proofs.counting.count_withdrawn.Goals.{then-is_withdrawn, else-is_withdrawn}
 
-pub loop-place-preserved : goal.loop-place-preserved
-loop-place-preserved c =
-    let l : c.loop-place.place < 256 = omega arith in
-    let e = c.is_withdrawn.ensures ∙ ap (λ b. cond b (get_or (book_in (plain c.args.book.now)).notes.withdrawn c.loop-place.place false) false) (lt-ltb _ _ l) in
-    elim c.if-is_withdrawn.branch [
-      | then-is_withdrawn w ↦ counted_yes _ c.loop-place.place c.loop-place.count _ w.count-is (sym e ∙ w.if-is_withdrawn.true) c.loop-place.invariant
-      | else-is_withdrawn w ↦ counted_no _ c.loop-place.place c.loop-place.count _ w.count-is (sym e ∙ w.if-is_withdrawn.false) c.loop-place.invariant
-    ]
+pub returns : goal.returns
+returns c =
+    let n = c.args.size in
+    let gone = λ (u : ℕ). get_or (book_in (plain c.args.book.now)).notes.withdrawn u false in
+    let told = λ (u : ℕ). cond (ltb u 256) (gone u) false in
+    range_count told n c.count.ensures.ran (YieldsList-from_filter _ told (YieldsList-from_range 0 n n (cc) (omega arith)) c.filter.ensures.closure (λ x b q k. search (rules, tests)))
+    ∙ count_same told gone n (λ u l. let below : u < 256 = omega (arith, c.requires) in ap (λ b. cond b (gone u) false) (lt-ltb u 256 below))

@@ -1,5 +1,5 @@
 -- The list of all maximal cliques cut at the pin: what follows the pin there is what comes next, and all that comes after.
-use Rattle.std.proofs.Common.{◌≡◌, ℕ, T, List, [], ◌∷◌, ◌++◌, Some, None, Option, sym, refl, ap, ◌∙◌, subst, inl, inr, append_assoc, arith}
+use Rattle.std.proofs.Common.{◌≡◌, ℕ, T, List, [], ◌∷◌, ◌++◌, Some, None, Option, sym, refl, ◌∙◌, inl, inr, append_assoc}
 use Rattle.std.proofs.lemmas.Bool.{cond-true, cond-false, cond_both}
 use Rattle.cliques.specs.Graph.{Graph, Lawful}
 use Rattle.cliques.specs.Sets.{same, MaximalClique}
@@ -30,10 +30,10 @@ cut : (K : List ℕ) (L : List (List ℕ)) → Among K L → Cut K L (following 
 cut K [] m = absurd m
 cut K (D ∷ L) m =
     cond_both (same K D) L (following K L) (Cut K (D ∷ L))
-    (λ t. ([], ap (λ (z : List ℕ). z ∷ L) (sym (same_eq K D (of_true (same K D) t)))))
+    (λ t. ([], cc (same_eq K D (of_true (same K D) t))))
     (λ t. elim m [
       | inl q ↦ absurd (of_false (same K D) t (eq_same K D q))
-      | inr q ↦ let c = cut K L q in (D ∷ c.0, ap (λ (z : List (List ℕ)). D ∷ z) c.1)
+      | inr q ↦ let c = cut K L q in (D ∷ c.0, cc)
     ])
 
 following_at : (A : List (List ℕ)) (K : List ℕ) (B : List (List ℕ)) → (Among K A → ⊥) → following K (A ++ (K ∷ B)) ≡ B
@@ -43,12 +43,12 @@ following_at (D ∷ A) K B out =
     ∙ following_at A K B (λ m. out (inr m))
 
 some_first : (B : List (List ℕ)) (D : List ℕ) → Some D ≡ first_set B → (C : List (List ℕ)) × (B ≡ D ∷ C)
-some_first [] D q = let z : ◌≡◌ {A = ℕ} 0 1 = cc in absurd (omega arith)
-some_first (E ∷ C) D q = let p : D ≡ E = cc in (C, ap (λ (z : List ℕ). z ∷ C) (sym p))
+some_first [] D q = cc
+some_first (E ∷ C) D q = (C, cc)
 
 none_first : (B : List (List ℕ)) → None ≡ first_set B → B ≡ []
 none_first [] q = refl
-none_first (E ∷ C) q = let z : ◌≡◌ {A = ℕ} 0 1 = cc in absurd (omega arith)
+none_first (E ∷ C) q = cc
 
 module _ (g : Graph) (law : Lawful g) where
   -- the two parts of a list by path
@@ -59,8 +59,7 @@ module _ (g : Graph) (law : Lawful g) where
   front_before : (A : List (List ℕ)) (K : List ℕ) (B : List (List ℕ)) → ByPath g (A ++ (K ∷ B)) → (X : List ℕ) → Among X A
       → Before (path g X) (path g K)
   front_before [] K B o X m = absurd m
-  front_before (D ∷ A) K B o X (inl q) =
-      subst (λ z. Before (path g z) (path g K)) (sym q) (o.0 K (among_r A (K ∷ B) K (inl refl)))
+  front_before (D ∷ A) K B o X (inl q) = rw q (o.0 K (among_r A (K ∷ B) K (inl refl)))
   front_before (D ∷ A) K B o X (inr q) = front_before A K B o.1 X q
 
   -- where a walk may stand
@@ -87,7 +86,7 @@ module _ (g : Graph) (law : Lawful g) where
     comes_next [] m = start g law L l
     comes_next (x ∷ S) m =
         let c = cut (x ∷ S) L (l.every_one (x ∷ S) m) in
-        along g law c.0 (x ∷ S) (following (x ∷ S) L) (subst (λ z. ListsAll g z) c.1 l)
+        along g law c.0 (x ∷ S) (following (x ∷ S) L) (rw c.1 at l)
 
     -- what comes next is the first set that remains
     pub next_first : (S : List ℕ) (r : Option (List ℕ)) → MayStand g S → NextAfter g (standing_path g S) r → r ≡ first_set (remainder L S)
@@ -97,11 +96,10 @@ module _ (g : Graph) (law : Lawful g) where
     remainder_some S D m x =
         let a = ends S m in
         let f = some_first (remainder L S) D (next_first S (Some D) m x) in
-        let q : L ≡ a.0 ++ (D ∷ f.0) = a.1 ∙ ap (λ (z : List (List ℕ)). a.0 ++ z) f.1 in
+        let q : L ≡ a.0 ++ (D ∷ f.0) = cc in
         let out : Among D a.0 → ⊥ =
-        λ k. not_self (path g D) (front_before a.0 D f.0 (subst (λ z. ByPath g z) q l.order) D k) in
-        let r : remainder L D ≡ f.0 = remainder_of D x.0 ∙ (ap (following D) q ∙ following_at a.0 D f.0 out) in
-        f.1 ∙ ap (λ (z : List (List ℕ)). D ∷ z) (sym r)
+        λ k. not_self (path g D) (front_before a.0 D f.0 (rw q at l.order) D k) in
+        cc (remainder_of D x.0, following_at a.0 D f.0 out)
 
     pub remainder_none : (S : List ℕ) → MayStand g S → NextAfter g (standing_path g S) None → remainder L S ≡ []
     remainder_none S m x = none_first (remainder L S) (next_first S None m x)
@@ -114,21 +112,21 @@ module _ (g : Graph) (law : Lawful g) where
     }
     remains (x ∷ S) m =
         let c = cut (x ∷ S) L (l.every_one (x ∷ S) m) in
-        let all : ByPath g (c.0 ++ ((x ∷ S) ∷ following (x ∷ S) L)) = subst (λ z. ByPath g z) c.1 l.order in
+        let all : ByPath g (c.0 ++ ((x ∷ S) ∷ following (x ∷ S) L)) = rw c.1 at l.order in
         let o = order_back c.0 ((x ∷ S) ∷ following (x ∷ S) L) all in
         record {
           only = λ K a. (
-            l.only K (subst (λ z. Among K z) (sym c.1) (among_r c.0 ((x ∷ S) ∷ following (x ∷ S) L) K (inr a))),
+            l.only K (rw c.1 (among_r c.0 ((x ∷ S) ∷ following (x ∷ S) L) K (inr a))),
             o.0 K a,
           );
           every_one = λ K k b.
-              let a : Among K (c.0 ++ ((x ∷ S) ∷ following (x ∷ S) L)) = subst (λ z. Among K z) c.1 (l.every_one K k) in
+              let a : Among K (c.0 ++ ((x ∷ S) ∷ following (x ∷ S) L)) = rw c.1 at (l.every_one K k) in
               elim (among_append c.0 ((x ∷ S) ∷ following (x ∷ S) L) K a) [
                 | inl q ↦
                     let j = front_before c.0 (x ∷ S) (following (x ∷ S) L) all K q in
                     absurd (not_self (path g K) (before_trans (path g K) (path g (x ∷ S)) (path g K) j b))
                 | inr q ↦ elim q [
-                  | inl z ↦ absurd (not_self (path g (x ∷ S)) (subst (λ y. Before (path g (x ∷ S)) (path g y)) z b))
+                  | inl z ↦ absurd (not_self (path g (x ∷ S)) (rw z at b))
                   | inr z ↦ z
                 ]
               ];

@@ -14,7 +14,7 @@ use Rattle.completion.specs.Checks.{set_fault, refuse_if}
 use Rattle.model.specs.declared.call.Call.{Call}
 use Rattle.model.specs.declared.call.Call.TheVariants.{Step, Read, Resume}
 use Rattle.model.specs.declared.answer.Answer.{Answer}
-use Rattle.model.specs.declared.answer.Answer.TheVariants.{Count, Resumed, Refused}
+use Rattle.model.specs.declared.answer.Answer.TheVariants.{Count, Resumed}
 use Rattle.model.specs.Steps.{reading}
 
 -- the sets of the list that follow K there
@@ -34,19 +34,19 @@ listed K (D ∷ L) = same K D || listed K L
 
 -- what a call gives: the answer, the caller's space after it, and the new pin
 pub record Turn : Type 0 where
-  pub answer : Answer
+  pub answer : Result Answer Refusal
   pub space : List ℕ
   pub pin : List ℕ
 
 -- a step moves the pin to the next set and tells its member count; with none left it is refused
 abbrev pub step_turn : Option (List ℕ) → List ℕ → List ℕ → Turn
-step_turn None pin space = record { answer = Refused (refused Exhausted Walk 0); space = space; pin = pin }
-step_turn (Some D) pin space = record { answer = Count (length D); space = space; pin = D }
+step_turn None pin space = record { answer = Err (refused Exhausted Walk 0); space = space; pin = pin }
+step_turn (Some D) pin space = record { answer = Ok (Count (length D)); space = space; pin = D }
 
 -- a count or a refusal, as an answer
-abbrev pub counted : Result ℕ Refusal → Answer
-counted (Ok count) = Count count
-counted (Err refusal) = Refused refusal
+abbrev pub counted : Result ℕ Refusal → Result Answer Refusal
+counted (Ok count) = Ok (Count count)
+counted (Err refusal) = Err refusal
 
 -- a read copies the set at the pin
 abbrev pub read_turn : List ℕ → List ℕ → Turn
@@ -58,8 +58,8 @@ unlisted g L X = option_or (set_fault g X) (refuse_if (not (listed X L)) NotMaxi
 
 -- a resume moves the pin to the set given, or is refused
 abbrev pub resume_turn : Option Refusal → List ℕ → List ℕ → Turn
-resume_turn (Some refusal) pin X = record { answer = Refused refusal; space = X; pin = pin }
-resume_turn None pin X = record { answer = Resumed; space = X; pin = X }
+resume_turn (Some refusal) pin X = record { answer = Err refusal; space = X; pin = pin }
+resume_turn None pin X = record { answer = Ok Resumed; space = X; pin = X }
 
 -- what the model gives at a pin to a call with the caller's space
 abbrev pub turn : Graph → List (List ℕ) → List ℕ → Call → List ℕ → Turn

@@ -1,12 +1,12 @@
 -- What one call, a list of calls, and steps alone have to give, whatever list of all maximal cliques the model has.
-use Rattle.std.specs.Prelude.{◌≡◌, ℕ, Bool, List, Some, None, Option}
+use Rattle.std.specs.Prelude.{◌≡◌, ℕ, Bool, List, Some, None, Option, Ok, Err, Result}
 use Rattle.refusal.specs.declared.Refusal.{Refusal}
 use Rattle.cliques.specs.Graph.{Graph}
 use Rattle.cliques.specs.Paths.{MayStand}
 use Rattle.cliques.specs.Listing.{ListsAll}
 use Rattle.completion.specs.declared.standing.Standing.{Standing}
 use Rattle.model.specs.declared.answer.Answer.{Answer}
-use Rattle.model.specs.declared.answer.Answer.TheVariants.{Resumed, Refused}
+use Rattle.model.specs.declared.answer.Answer.TheVariants.{Resumed}
 use Rattle.model.specs.Model.{remainder}
 use Rattle.model.specs.Runs.{Asked, Told, reply, moved, replies, pin_after, PutInto}
 
@@ -27,6 +27,6 @@ abbrev pub GivesRest : Graph → List ℕ → List Standing → List Standing �
 GivesRest g pin room exit count all = (L : List (List ℕ)) → ListsAll g L → PutInto room (remainder L pin) exit count all
 
 -- the answer to a resume, by why it was refused
-abbrev pub resume_answer : Option Refusal → Answer
-resume_answer (Some refusal) = Refused refusal
-resume_answer None = Resumed
+abbrev pub resume_answer : Option Refusal → Result Answer Refusal
+resume_answer (Some refusal) = Err refusal
+resume_answer None = Ok Resumed

@@ -1,5 +1,6 @@
 -- Whole runs: a new walk, any list of calls, then steps alone into room that the caller lends.
-use Rattle.std.specs.Prelude.{◌≡◌, ℕ, min, Bool, List, [], ◌∷◌, ◌++◌, map, length, take, drop, vec_items, nat_le}
+use Rattle.std.specs.Prelude.{◌≡◌, ℕ, min, Bool, List, [], ◌∷◌, ◌++◌, map, length, take, drop, vec_items, nat_le, Some, Option, Result}
+use Rattle.refusal.specs.declared.Refusal.{Refusal}
 use Rattle.cliques.specs.Graph.{Graph}
 use Rattle.cliques.specs.Listing.{ListsAll}
 use Rattle.completion.specs.declared.standing.Standing.{Standing}
@@ -14,10 +15,10 @@ pub record Asked : Type 0 where
   pub call : Call
   pub space : List ℕ
 
--- a call, its answer, and the caller's space after it
+-- a call, its answer if it is made, and the caller's space after it
 pub record Told : Type 0 where
   pub call : Call
-  pub answer : Answer
+  pub answer : Option (Result Answer Refusal)
   pub space : List ℕ
 
 abbrev pub asked : Exchange → Asked
@@ -29,7 +30,7 @@ told x = record { call = x.call; answer = x.answer; space = vec_items x.space }
 module _ (g : Graph) (L : List (List ℕ)) where
   -- what the model tells of a call at a pin
   abbrev pub reply : List ℕ → Asked → Told
-  reply pin q = record { call = q.call; answer = (turn g L pin q.call q.space).answer; space = (turn g L pin q.call q.space).space }
+  reply pin q = record { call = q.call; answer = Some (turn g L pin q.call q.space).answer; space = (turn g L pin q.call q.space).space }
 
   -- the pin after the call
   abbrev pub moved : List ℕ → Asked → List ℕ

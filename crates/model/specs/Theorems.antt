@@ -1,5 +1,5 @@
 -- The theorems as statements, each for every lawful graph.
-use Rattle.std.specs.Prelude.{◌≡◌, ℕ, List, Option, Result}
+use Rattle.std.specs.Prelude.{◌≡◌, ℕ, List, Some, Option, Result}
 use Rattle.refusal.specs.declared.Refusal.{Refusal}
 use Rattle.cliques.specs.Graph.{Graph}
 use Rattle.cliques.specs.Paths.{MayStand}
@@ -19,12 +19,12 @@ RemainderHolds = ForGraphs (λ g. (L : List (List ℕ)) → ListsAll g L → (pi
 -- Each call, as it is stated by the set S that stands, answers and moves as the model whose pin is at S.
 pub record Calls (g : Graph) : Type 0 where
   pub step : (S : List ℕ) (r : Result ℕ Refusal) (D X : List ℕ) → MayStand g S → StepsTo g S r D
-      → Obeys g S (record { call = Step; space = X }) (record { call = Step; answer = counted r; space = X }) D
+      → Obeys g S (record { call = Step; space = X }) (record { call = Step; answer = Some (counted r); space = X }) D
   pub read : (S out : List ℕ) (r : Result ℕ Refusal) (space : List ℕ) → MayStand g S → r ≡ (reading S out).answer
       → space ≡ (reading S out).space
-      → Obeys g S (record { call = Read; space = out }) (record { call = Read; answer = counted r; space = space }) S
+      → Obeys g S (record { call = Read; space = out }) (record { call = Read; answer = Some (counted r); space = space }) S
   pub resume : (S X : List ℕ) (fault : Option Refusal) → MayStand g S → fault ≡ maximal_fault g X
-      → Obeys g S (record { call = Resume; space = X }) (record { call = Resume; answer = resume_answer fault; space = X }) (resumed fault S X)
+      → Obeys g S (record { call = Resume; space = X }) (record { call = Resume; answer = Some (resume_answer fault); space = X }) (resumed fault S X)
 
 abbrev pub ModelObeys : Type 0
 ModelObeys = ForGraphs Calls

@@ -1,5 +1,5 @@
 /// A call on a walk.
-#[derive(Clone, Copy)]
+#[derive(Clone, Copy, PartialEq, Eq, Debug)]
 pub enum Call {
     /// Goes on to the next set.
     Step,

@@ -15,7 +15,7 @@ use pairs::{PairTable, Selection};
 use refusal::{Layer, Reason, Refusal};
 
 /// What a run in degeneracy order tells: how many places were put in order, the degeneracy, and what the walk gave.
-#[derive(Clone, Copy)]
+#[derive(Clone, Copy, PartialEq, Eq, Debug)]
 pub struct InOrder {
     pub placed: usize,
     pub degeneracy: usize,
@@ -39,22 +39,21 @@ pub fn run_in_order<T: PairTable>(
         (λ x. (x ≡ refused Reason.ShortSpace Layer.Table 0) × (order.new ≡ order.old) × (waiting.new ≡ waiting.old) × (exchanges.new ≡ exchanges.old) × (room.new ≡ room.old)) }
     ensures waiting { length waiting.new ≡ length waiting.old }
 {
-    match degeneracy_order(&table, order, waiting) {
-        Err(refusal) => (table, Err(refusal)),
-        Ok((placed, degeneracy)) => match Selection::new(table, &order[0..placed]) {
-            // an order of all places is never refused
-            Err((refusal, table)) => (table, Err(refusal)),
-            Ok(selection) => {
-                let (selection, rest) = run(selection, exchanges, room);
-                (
-                    selection.release(),
-                    Ok(InOrder {
-                        placed,
-                        degeneracy,
-                        rest,
-                    }),
-                )
-            }
-        },
-    }
+    // Each refusal hands the table back, so neither match is a `?`.
+    let (placed, degeneracy) = match degeneracy_order(&table, order, waiting) {
+        Ok(found) => found,
+        Err(refusal) => return (table, Err(refusal)),
+    };
+    let selection = match Selection::new(table, &order[..placed]) {
+        Ok(selection) => selection,
+        // An order of all places is never refused.
+        Err((refusal, table)) => return (table, Err(refusal)),
+    };
+    let (selection, rest) = run(selection, exchanges, room);
+    let told = InOrder {
+        placed,
+        degeneracy,
+        rest,
+    };
+    (selection.release(), Ok(told))
 }

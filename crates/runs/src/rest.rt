@@ -1,7 +1,8 @@
 use completion::Standing;
 
 /// What a walk kept after the calls of a run, and what steps alone gave from there.
-#[derive(Clone, Copy)]
+// The count is told whether or not the sets are all, so an Option could not hold the two.
+#[derive(Clone, Copy, PartialEq, Eq, Debug)]
 pub struct Rest {
     /// What the walk kept after the calls.
     pub kept: Standing,

@@ -2,3 +2,4 @@ pub mod Roots
 pub mod Found
 pub mod Agree
 pub mod Climbs
+pub mod Whole

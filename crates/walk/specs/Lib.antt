@@ -1,2 +1,4 @@
 pub mod Search
 pub mod Keeps
+pub mod Single
+pub mod Whole

@@ -6,9 +6,9 @@ ghost use Rattle.cliques.specs.Sets.{MaximalClique};
 ghost use Rattle.completion.specs.Standings.{members_of};
 ghost use Rattle.walk.specs.Search.{Kept, found_set};
 
-use crate::children::first_child;
 use crate::heads::first_root;
-use completion::{Barriers, Standing, completed_below, smallest};
+use crate::reached::Reached;
+use completion::Standing;
 use pairs::PairTable;
 
 // The first place after an index.
@@ -25,21 +25,17 @@ fn next_after<T: PairTable>(table: &T, set: &Standing) -> Option<Standing>
     ensures kept { Kept result }
     ensures next { MaximalClique (T.PairTable.meaning table.now) (members_of set.now) → NextAfter (T.PairTable.meaning table.now) (path (T.PairTable.meaning table.now) (members_of set.now)) (found_set result) }
 {
-    let mut here = *set;
-    let mut barriers = Barriers::of(table, here.members());
-    let mut from = past(barriers.largest);
+    let mut here = Reached::new(table, *set);
+    let mut from = past(here.index());
     for _climbed in 0..table.size() {
-        match first_child(table, &barriers, &here, from) {
-            Some(child) => return Some(child),
-            None => {}
+        if let Some(child) = here.first_child(from) {
+            return Some(child);
         }
-        let index = barriers.largest;
-        from = past(index);
-        if index == smallest(here.members()) {
+        from = past(here.index());
+        if here.is_root() {
             return first_root(table, from);
         }
-        here = completed_below(table, &here, index);
-        barriers = Barriers::of(table, here.members());
+        here = here.parent();
     }
     None
 }
@@ -49,7 +45,7 @@ pub(crate) fn next_set<T: PairTable>(table: &T, here: &Standing) -> Option<Stand
     ensures kept { Kept result }
     ensures next { MayStand (T.PairTable.meaning table.now) (members_of here.now) → NextAfter (T.PairTable.meaning table.now) (standing_path (T.PairTable.meaning table.now) (members_of here.now)) (found_set result) }
 {
-    if here.members().len() == 0 {
+    if here.members().is_empty() {
         first_root(table, 0)
     } else {
         next_after(table, here)

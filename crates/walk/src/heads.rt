@@ -13,22 +13,14 @@ use pairs::PairTable;
 fn is_head<T: PairTable>(table: &T, h: usize) -> bool
     ensures { h < (T.PairTable.meaning table.now).size → result ≡ is_head (T.PairTable.meaning table.now) h }
 {
-    match table.first_partner(h, 0) {
-        Some(w) => h < w,
-        None => true,
-    }
+    table.first_partner(h, 0).is_none_or(|w| h < w)
 }
 
 // The first head at `from` or above.
 fn first_head<T: PairTable>(table: &T, from: usize) -> Option<usize>
     ensures { FirstFrom (is_head (T.PairTable.meaning table.now)) (T.PairTable.meaning table.now).size from result }
 {
-    for h in from..table.size() {
-        if is_head(table, h) {
-            return Some(h);
-        }
-    }
-    None
+    (from..table.size()).find(|&h| is_head(table, h))
 }
 
 // The completion of the first head at `from` or above.
@@ -36,8 +28,5 @@ pub(crate) fn first_root<T: PairTable>(table: &T, from: usize) -> Option<Standin
     ensures kept { Kept result }
     ensures least { LeastFrom (T.PairTable.meaning table.now) (from ∷ []) (found_set result) }
 {
-    match first_head(table, from) {
-        Some(h) => Some(completed(table, &[h as u16])),
-        None => None,
-    }
+    first_head(table, from).map(|h| completed(table, &[h as u16]))
 }

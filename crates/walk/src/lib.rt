@@ -2,9 +2,9 @@
 //! nothing else.
 #![tactic(auto)]
 
-mod children;
 mod climb;
 mod heads;
+mod reached;
 mod walk;
 
 pub use walk::Walk;

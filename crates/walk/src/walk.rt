@@ -3,10 +3,11 @@
 ghost use Rattle.std.specs.Prelude.{◌≡◌, []};
 ghost use Rattle.cliques.specs.Paths.{MayStand};
 ghost use Rattle.completion.specs.Checks.{maximal_fault};
-ghost use Rattle.completion.specs.Standings.{members_of, standing_of};
+ghost use Rattle.completion.specs.Standings.{Clean, members_of, standing_of};
 ghost use Rattle.model.specs.Steps.{StepsTo, reading};
 ghost use Rattle.std.specs.Result.{result_err};
 ghost use Rattle.walk.specs.Keeps.{Checked, SteppedFrom, resumed_from};
+ghost use Rattle.walk.specs.Single.{clean_single, may_stand_single};
 
 use crate::climb::next_set;
 use completion::{Standing, maximal_fault};
@@ -17,10 +18,8 @@ use refusal::{Layer, Reason, Refusal};
 fn checked<T: PairTable>(table: &T, set: &[u16]) -> Result<Standing, Refusal>
     ensures { Checked (T.PairTable.meaning table.now) set.now result }
 {
-    match maximal_fault(table, set) {
-        Some(refusal) => Err(refusal),
-        None => Ok(Standing::of(set)),
-    }
+    maximal_fault(table, set).map_or(Ok(()), Err)?;
+    Ok(Standing::of(set))
 }
 
 /// A walk over the maximal cliques of a table, in the order of their paths. It stands before the first set or at a set, and
@@ -29,12 +28,17 @@ fn checked<T: PairTable>(table: &T, set: &[u16]) -> Result<Standing, Refusal>
 pub struct Walk<T: PairTable> {
     table: T,
     standing: Standing,
+    ghost clean: { Clean standing } by { clean_single standing },
+    ghost sound: { MayStand (T.PairTable.meaning table) (members_of standing) } by { may_stand_single (T.PairTable.meaning table) (members_of standing) },
 }
 
 impl<T: PairTable> Walk<T> {
+    ghost use Rattle.walk.specs.Whole.{IsWhole};
+
     /// Starts a walk before the first set.
     pub fn new(table: T) -> Walk<T>
-        ensures { result ≡ record { table = table; standing = standing_of [] } }
+        ensures table { result.table ≡ table }
+        ensures standing { result.standing ≡ standing_of [] }
     {
         Walk {
             table,
@@ -45,18 +49,15 @@ impl<T: PairTable> Walk<T> {
     /// Goes on to the next set and tells how many members it has. Refuses where no set is left (`Exhausted`), and then
     /// stands where it stood.
     pub fn step(&mut self) -> Result<usize, Refusal>
-        ensures table { self.new ≡ record { table = self.old.table; standing = self.new.standing } }
+        ensures table { self.new.table ≡ self.old.table }
         ensures kept { SteppedFrom self.old.standing result self.new.standing }
-        ensures next { MayStand (T.PairTable.meaning self.old.table) (members_of self.old.standing) → StepsTo (T.PairTable.meaning self.old.table) (members_of self.old.standing) result (members_of self.new.standing) }
-        ensures sound { MayStand (T.PairTable.meaning self.old.table) (members_of self.old.standing) → MayStand (T.PairTable.meaning self.old.table) (members_of self.new.standing) }
+        ensures next { StepsTo (T.PairTable.meaning self.old.table) (members_of self.old.standing) result (members_of self.new.standing) }
     {
-        match next_set(&self.table, &self.standing) {
-            Some(set) => {
-                self.standing = set;
-                Ok(self.standing.members().len())
-            }
-            None => Err(Refusal::new(Reason::Exhausted, Layer::Walk, 0)),
-        }
+        let Some(set) = next_set(&self.table, &self.standing) else {
+            return Err(Refusal::new(Reason::Exhausted, Layer::Walk, 0));
+        };
+        self.standing = set;
+        Ok(self.standing.members().len())
     }
 
     /// Copies the standing set to the front of `out` and tells how many members it has; what lies beyond stays. Refuses
@@ -65,7 +66,7 @@ impl<T: PairTable> Walk<T> {
         ensures answer { result ≡ (reading (members_of self.now.standing) out.old).answer }
         ensures space { out.new ≡ (reading (members_of self.now.standing) out.old).space }
     {
-        if self.standing.members().len() == 0 {
+        if self.standing.members().is_empty() {
             return Err(Refusal::new(Reason::NothingStanding, Layer::Walk, 0));
         }
         self.standing.copy_out(out)
@@ -76,16 +77,19 @@ impl<T: PairTable> Walk<T> {
     /// stood.
     pub fn resume(&mut self, set: &[u16]) -> Result<(), Refusal>
         ensures answer { result_err result ≡ maximal_fault (T.PairTable.meaning self.old.table) set.now }
-        ensures stands { self.new ≡ record { table = self.old.table; standing = resumed_from (maximal_fault (T.PairTable.meaning self.old.table) set.now) self.old.standing set.now } }
-        ensures sound { MayStand (T.PairTable.meaning self.old.table) (members_of self.old.standing) → MayStand (T.PairTable.meaning self.old.table) (members_of self.new.standing) }
+        ensures table { self.new.table ≡ self.old.table }
+        ensures stands { self.new.standing ≡ resumed_from (maximal_fault (T.PairTable.meaning self.old.table) set.now) self.old.standing set.now }
     {
         self.standing = checked(&self.table, set)?;
         Ok(())
     }
 
-    /// What the walk keeps.
+    /// What the walk keeps: the set that it stands at, or none. With the table this is the whole walk.
     pub fn standing(&self) -> &Standing
-        ensures { result.now ≡ self.now.standing }
+        ensures standing { result.now ≡ self.now.standing }
+        ensures whole { IsWhole self.now }
+        ensures clean { Clean result.now }
+        ensures sound { MayStand (T.PairTable.meaning self.now.table) (members_of result.now) }
     {
         &self.standing
     }

@@ -9,27 +9,22 @@ use summary::check;
 // One byte more than a book may have is enough to tell that it is too long.
 const MOST: u64 = 65537;
 
-// Prints the verdict, and tells whether the book was accepted.
-fn run(rt: &HostRuntime) -> io::Result<bool> {
+// Prints the verdict: an accepted book ends with status 0, a refused one with 1.
+fn run(rt: &HostRuntime) -> io::Result<ExitCode> {
     let mut bytes = Vec::new(rt.alloc());
     rt.stdin().take(MOST).read_to_end(&mut bytes)?;
     match check(bytes.as_slice()) {
         Ok(summary) => {
             rt.println(summary)?;
-            Ok(true)
+            Ok(ExitCode::SUCCESS)
         }
         Err(refusal) => {
             rt.println(refusal)?;
-            Ok(false)
+            Ok(ExitCode::FAILURE)
         }
     }
 }
 
-// An accepted book ends with status 0, a refused one with 1; its refusal is printed already.
 fn main(rt: HostRuntime) -> anyhow::Result<ExitCode> {
-    if run(&rt)? {
-        Ok(ExitCode::SUCCESS)
-    } else {
-        Ok(ExitCode::FAILURE)
-    }
+    Ok(run(&rt)?)
 }

@@ -1,15 +1,8 @@
 //! The calls on sets, on the worked racks, and each of their refusals.
 
-use crate::print_refusal;
+use crate::{print_members, print_refusal, with_lists};
 use completion::{complete, parent, parent_index};
-use pairs::{PairTable, PartnerLists};
-
-fn print_members(rt: &HostRuntime, members: &[u16]) -> anyhow::Result<()> {
-    for member in members {
-        print!(rt; " {member}")?;
-    }
-    Ok(())
-}
+use pairs::PairTable;
 
 // The completion of a set, in a space of the length given.
 fn print_completion<T: PairTable>(
@@ -25,9 +18,8 @@ fn print_completion<T: PairTable>(
     match complete(table, set, &mut out) {
         Ok(count) => {
             print!(rt; "{count} members")?;
-            for member in out.iter().take(count) {
-                print!(rt; " {member}")?;
-            }
+            out.truncate(count);
+            print_members(rt, &out)?;
             Ok(println!(rt; "")?)
         }
         Err(refusal) => print_refusal(rt, refusal),
@@ -52,9 +44,8 @@ fn print_parent<T: PairTable>(
     match parent(table, set, &mut out) {
         Ok(Some(count)) => {
             print!(rt; "parent")?;
-            for member in out.iter().take(count) {
-                print!(rt; " {member}")?;
-            }
+            out.truncate(count);
+            print_members(rt, &out)?;
             Ok(println!(rt; "")?)
         }
         Ok(None) => Ok(println!(rt; "a root")?),
@@ -63,21 +54,19 @@ fn print_parent<T: PairTable>(
 }
 
 fn print_singles<T: PairTable>(rt: &HostRuntime, table: &T) -> anyhow::Result<()> {
-    for v in 0..table.size() {
-        if v < 256 {
-            print_completion(rt, table, &[v as u16], 256)?;
-        }
+    for v in (0..table.size()).filter_map(|v| u16::try_from(v).ok()) {
+        print_completion(rt, table, &[v], 256)?;
     }
     Ok(())
 }
 
 fn rack_a(rt: &HostRuntime) -> anyhow::Result<()> {
     println!(rt; "-- sets of 01 02 12 13 23 34 and 5 alone")?;
-    match PartnerLists::new(
+    with_lists(
+        rt,
         &[2, 5, 8, 11, 12, 12],
         &[1, 2, 0, 2, 3, 0, 1, 3, 1, 2, 4, 3],
-    ) {
-        Ok(table) => {
+        |table| {
             print_singles(rt, &table)?;
             print_parent(rt, &table, &[0, 1, 2], 0)?;
             print_parent(rt, &table, &[1, 2, 3], 3)?;
@@ -90,62 +79,51 @@ fn rack_a(rt: &HostRuntime) -> anyhow::Result<()> {
             print_completion(rt, &table, &[3], 2)?;
             print_parent(rt, &table, &[1, 2], 256)?;
             print_parent(rt, &table, &[1, 2, 3], 2)
-        }
-        Err(refusal) => print_refusal(rt, refusal),
-    }
+        },
+    )
 }
 
 fn rack_b(rt: &HostRuntime) -> anyhow::Result<()> {
     println!(rt; "-- sets of 01 03 12 23")?;
-    match PartnerLists::new(&[2, 4, 6, 8], &[1, 3, 0, 2, 1, 3, 0, 2]) {
-        Ok(table) => {
-            print_singles(rt, &table)?;
-            print_parent(rt, &table, &[0, 1], 256)?;
-            print_parent(rt, &table, &[1, 2], 256)?;
-            print_parent(rt, &table, &[2, 3], 256)?;
-            print_parent(rt, &table, &[0, 3], 256)
-        }
-        Err(refusal) => print_refusal(rt, refusal),
-    }
+    with_lists(rt, &[2, 4, 6, 8], &[1, 3, 0, 2, 1, 3, 0, 2], |table| {
+        print_singles(rt, &table)?;
+        print_parent(rt, &table, &[0, 1], 256)?;
+        print_parent(rt, &table, &[1, 2], 256)?;
+        print_parent(rt, &table, &[2, 3], 256)?;
+        print_parent(rt, &table, &[0, 3], 256)
+    })
 }
 
 fn rack_c(rt: &HostRuntime) -> anyhow::Result<()> {
     println!(rt; "-- sets of 01 12 13 23")?;
-    match PartnerLists::new(&[1, 4, 6, 8], &[1, 0, 2, 3, 1, 3, 1, 2]) {
-        Ok(table) => {
-            print_singles(rt, &table)?;
-            print_parent(rt, &table, &[0, 1], 256)?;
-            print_parent(rt, &table, &[1, 2, 3], 256)
-        }
-        Err(refusal) => print_refusal(rt, refusal),
-    }
+    with_lists(rt, &[1, 4, 6, 8], &[1, 0, 2, 3, 1, 3, 1, 2], |table| {
+        print_singles(rt, &table)?;
+        print_parent(rt, &table, &[0, 1], 256)?;
+        print_parent(rt, &table, &[1, 2, 3], 256)
+    })
 }
 
 fn rack_d(rt: &HostRuntime) -> anyhow::Result<()> {
     println!(rt; "-- sets of 01 02 03 24")?;
-    match PartnerLists::new(&[3, 4, 6, 7, 8], &[1, 2, 3, 0, 0, 4, 0, 2]) {
-        Ok(table) => {
-            print_singles(rt, &table)?;
-            print_parent(rt, &table, &[0, 1], 256)?;
-            print_parent(rt, &table, &[0, 2], 256)?;
-            print_parent(rt, &table, &[2, 4], 256)?;
-            print_parent(rt, &table, &[0, 3], 256)
-        }
-        Err(refusal) => print_refusal(rt, refusal),
-    }
+    with_lists(rt, &[3, 4, 6, 7, 8], &[1, 2, 3, 0, 0, 4, 0, 2], |table| {
+        print_singles(rt, &table)?;
+        print_parent(rt, &table, &[0, 1], 256)?;
+        print_parent(rt, &table, &[0, 2], 256)?;
+        print_parent(rt, &table, &[2, 4], 256)?;
+        print_parent(rt, &table, &[0, 3], 256)
+    })
 }
 
 // A table without places, and one with a single place.
 fn smallest_racks(rt: &HostRuntime) -> anyhow::Result<()> {
     println!(rt; "-- sets of no place and of one")?;
-    match PartnerLists::new(&[], &[]) {
-        Ok(table) => print_completion(rt, &table, &[0], 256)?,
-        Err(refusal) => print_refusal(rt, refusal)?,
-    }
-    match PartnerLists::new(&[0], &[]) {
-        Ok(table) => print_parent(rt, &table, &[0], 256),
-        Err(refusal) => print_refusal(rt, refusal),
-    }
+    with_lists(
+        rt,
+        &[],
+        &[],
+        |table| print_completion(rt, &table, &[0], 256),
+    )?;
+    with_lists(rt, &[0], &[], |table| print_parent(rt, &table, &[0], 256))
 }
 
 pub(crate) fn run(rt: &HostRuntime) -> anyhow::Result<()> {

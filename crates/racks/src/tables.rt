@@ -1,11 +1,11 @@
 //! Pair tables of every kind: who is whose partner, and each refusal once.
 
 use crate::books::book_bytes;
-use crate::print_refusal;
+use crate::{print_refusal, with_lists};
 use book::IndexRecord;
 use closed::{ClosedBook, read_closed};
 use format::Card;
-use pairs::{PairTable, PartnerLists, Selection, Stamped};
+use pairs::{PairTable, Selection, Stamped};
 
 // Each place with its first partner, if it has one.
 fn print_partners<T: PairTable>(rt: &HostRuntime, table: &T) -> anyhow::Result<()> {
@@ -26,6 +26,11 @@ fn print_stamps<T: Stamped>(rt: &HostRuntime, table: &T) -> anyhow::Result<()> {
     Ok(())
 }
 
+fn print_table<T: Stamped>(rt: &HostRuntime, table: &T) -> anyhow::Result<()> {
+    print_stamps(rt, table)?;
+    print_partners(rt, table)
+}
+
 fn print_book(rt: &HostRuntime, name: &str) -> anyhow::Result<()> {
     println!(rt; "-- table of {name}")?;
     let bytes = book_bytes(rt, name)?;
@@ -33,14 +38,8 @@ fn print_book(rt: &HostRuntime, name: &str) -> anyhow::Result<()> {
     let mut marks = [0; 4080];
     let mut index = [IndexRecord::NONE; 256];
     match read_closed(bytes.as_slice(), &mut cards, &mut marks, &mut index) {
-        Ok(ClosedBook::Pairs(table)) => {
-            print_stamps(rt, &table)?;
-            print_partners(rt, &table)
-        }
-        Ok(ClosedBook::Ruled(table)) => {
-            print_stamps(rt, &table)?;
-            print_partners(rt, &table)
-        }
+        Ok(ClosedBook::Pairs(table)) => print_table(rt, &table),
+        Ok(ClosedBook::Ruled(table)) => print_table(rt, &table),
         Err(refusal) => print_refusal(rt, refusal),
     }
 }
@@ -52,10 +51,7 @@ fn print_lists<'a>(
     entries: &'a [u16],
 ) -> anyhow::Result<()> {
     println!(rt; "-- lists: {label}")?;
-    match PartnerLists::new(ends, entries) {
-        Ok(table) => print_partners(rt, &table),
-        Err(refusal) => print_refusal(rt, refusal),
-    }
+    with_lists(rt, ends, entries, |table| print_partners(rt, &table))
 }
 
 fn select<T: PairTable + Drop>(rt: &HostRuntime, table: T, chosen: &[u16]) -> anyhow::Result<()> {
@@ -68,10 +64,12 @@ fn select<T: PairTable + Drop>(rt: &HostRuntime, table: T, chosen: &[u16]) -> an
 // A selection of three lists in which 0 and 1, and 1 and 2, are partners.
 fn print_selection(rt: &HostRuntime, label: &str, chosen: &[u16]) -> anyhow::Result<()> {
     println!(rt; "-- selection: {label}")?;
-    match PartnerLists::new(&[1, 3, 4], &[1, 0, 2, 1]) {
-        Ok(table) => select(rt, table, chosen),
-        Err(refusal) => print_refusal(rt, refusal),
-    }
+    with_lists(
+        rt,
+        &[1, 3, 4],
+        &[1, 0, 2, 1],
+        |table| select(rt, table, chosen),
+    )
 }
 
 pub(crate) fn run(rt: &HostRuntime) -> anyhow::Result<()> {

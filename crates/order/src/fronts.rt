@@ -30,7 +30,7 @@ pub(crate) fn heads_first<T: PairTable>(table: &T, order: &mut [u16])
     ensures { order.new ≡ heads_first (T.meaning table.now).partners order.old }
 {
     let mut count = 0;
-    // by place: each turn reads the entries before the place, and writes them and the entry there
+    // By place: each turn reads the entries before the place, and writes them and the entry there
     for i in 0..order.len() {
         let place = order[i];
         if is_head(table, &order[..i], place) {

@@ -32,14 +32,13 @@ impl<'a> Line<'a> {
             waiting: SortedSlice::new(space),
         };
         for place in 0..table.size() {
-            line.begin(place, count_partners(table, place));
+            line.begin(place as u8, count_partners(table, place));
         }
         line
     }
 
     // The place begins to wait, with that many partners.
-    fn begin(&mut self, place: usize, partners: u16)
-        requires within { place < 256 }
+    fn begin(&mut self, place: u8, partners: u16)
         requires idle { waits_at self.old.tallies.records place ≡ false }
         requires free { length (held self.old.waiting) < room self.old.waiting }
         ensures after { self.new.tallies.records ≡ set self.old.tallies.records place (record { partners = partners; waits = true }) }
@@ -48,14 +47,16 @@ impl<'a> Line<'a> {
     {
         self.tallies.start(place, partners);
         let record = self.tallies.waiting(place);
+        // Never refused, so the answer needs no look: by the contract the line is longer by one.
         let _ = self.waiting.insert(record);
     }
 
     // One partner less of the place waits; its record moves up in the line.
-    fn lower(&mut self, place: usize)
+    fn lower(&mut self, place: u8)
         requires { waits_at self.old.tallies.records place ≡ true }
         ensures { self.new.tallies.records ≡ set self.old.tallies.records place (record { partners = count_at self.old.tallies.records place - 1; waits = true }) }
     {
+        // Neither call is ever refused, so the answers need no look: after a refusal the line would not hold what it must.
         let before = self.tallies.waiting(place);
         let _ = self.waiting.remove(before);
         self.tallies.lower(place);
@@ -68,8 +69,8 @@ impl<'a> Line<'a> {
         ensures { let m = T.meaning table.now in Lowered m.size (m.partners place) self.old.tallies.records self.new.tallies.records }
     {
         for other in 0..table.size() {
-            if table.partners(place, other) && self.tallies.waits(other) {
-                self.lower(other);
+            if table.partners(place, other) && self.tallies.waits(other as u8) {
+                self.lower(other as u8);
             }
         }
     }
@@ -82,9 +83,8 @@ impl<'a> Line<'a> {
         ensures left { let m = T.meaning table.now in left m.size self.new.tallies.records ≡ after_next m.partners (left m.size self.old.tallies.records) }
     {
         let first = self.waiting.pop_first().ok()?;
-        let place = first.place as usize;
-        self.tallies.stop(place);
-        self.lower_partners(table, place);
+        self.tallies.stop(first.place as u8);
+        self.lower_partners(table, first.place as usize);
         Some(first)
     }
 }
@@ -110,6 +110,7 @@ pub(crate) fn take_all<T: PairTable>(table: &T, order: &mut [u16], space: &mut [
     let mut largest = 0usize;
     for slot in order.iter_mut() {
         let Some(next) = line.take_next(table) else {
+            // Never taken: as many places wait as slots are left.
             break;
         };
         *slot = next.place;

@@ -115,7 +115,7 @@ impl Refusal {
         }
     }
 
-    /// The number from the layer below, or 0.
+    /// The number from the layer below, or 0, as the shop writes where there is none.
     pub fn below_number(&self) -> u8
         ensures { result ≡ below_number self.now }
     {

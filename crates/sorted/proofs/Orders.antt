@@ -1,9 +1,8 @@
 -- What `at_most` holds of a comparison that is a total order.
-use Rattle.std.proofs.Common.{◌≡◌, ℕ, true, false, refl, ap, ◌∙◌, nat_le, arith}
+use Rattle.std.proofs.Common.{◌≡◌, true, false, refl, ap, ◌∙◌}
 use Rattle.std.specs.declared.cmp.Ordering.{Ordering}
 use Rattle.std.specs.declared.cmp.Ordering.TheVariants.{Less, Equal, Greater}
-use Rattle.std.specs.Ordering.{is_le, is_gt, ordering_reverse, nat_cmp}
-use Rattle.std.proofs.lemmas.Bool.Decides.{nat_tests}
+use Rattle.std.specs.Ordering.{is_le, is_gt, ordering_reverse}
 use Rattle.std.specs.Cmp.{IsTotalOrder, upto}
 use Rattle.sorted.specs.Keyed.{at_most}
 
@@ -28,10 +27,3 @@ module _ {K : Type 0} {cmp : K → K → Ordering} (o : IsTotalOrder cmp) where
 
   pub at_most_trans : (x y z : K) → at_most cmp x y ≡ true → at_most cmp y z ≡ true → at_most cmp x z ≡ true
   at_most_trans x y z h k = not_above (cmp x z) (upto o x y z (not_greater (cmp x y) h) (not_greater (cmp y z) k))
-
--- the order of numbers
-nat_at_most : (a b : ℕ) → at_most nat_cmp a b ≡ nat_le a b
-nat_at_most a b = grind (arith, nat_tests)
-
-pub at_most_nat : at_most nat_cmp ≡ nat_le
-at_most_nat i a b = nat_at_most a b i

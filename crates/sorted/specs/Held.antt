@@ -1,6 +1,5 @@
 -- What a sorted slice holds; k, o, e and p are what the bounds of its keys bring, which its type cites.
 use Rattle.std.specs.Prelude.{◌≡◌, ℕ, Bool, List, length, take, nat_lt}
-use Rattle.sorted.specs.Keyed.{Rising}
 use Rattle.sorted.specs.declared.slice.SortedSlice.{SortedSlice}
 
 -- the records that it holds
@@ -18,7 +17,3 @@ has_room s = nat_lt (length (held s)) (room s)
 -- the second has the records and the count of the first
 abbrev pub Same : {T K : Type 0} {k o e p : _} → SortedSlice T K k o e p → SortedSlice T K k o e p → Type 0
 Same s t = (t.records.now ≡ s.records.now) × (t.count ≡ s.count)
-
--- where the first holds records in strictly rising order of key, so does the second
-abbrev pub KeepsRising : {T K : Type 0} {k o e p : _} → (K → K → Bool) → (T → K) → SortedSlice T K k o e p → SortedSlice T K k o e p → Type 0
-KeepsRising upto key s t = Rising upto key (held s) → Rising upto key (held t)

@@ -7,7 +7,7 @@ ghost use Rattle.std.proofs.Common.{rules};
 
 /// An order of keys in which keys that tie are the same key.
 pub trait TotalOrder: Ord {
-    /// Whether this key is the other one.
+    /// Whether this key is the other one. It promises what `==` does not: that keys which tie are one key.
     fn same(&self, other: &Self) -> bool
         ensures test { result ≡ tie (at_most Self.Ord.cmp) self.now other.now }
         ensures same { result ≡ true → self.now ≡ other.now }

@@ -1,7 +1,8 @@
-//! The work on the lent slice: its first `count` records are the ones held.
+//! The work on the lent slice: its first `count` records are the ones held. These are functions over any slice of records, so
+//! they ask again what the type of a sorted slice keeps.
 
 ghost use Rattle.std.specs.Prelude.{◌≡◌, ◌+◌, ◌-◌, ◌<◌, ◌≤◌, true, false, length, take, drop, is_some, IfSome, is_ok, Some, nat_lt, slice_get};
-ghost use Rattle.sorted.specs.Keyed.{at_most, front, leading, first_of, without, up_to_key, of_key, inserted, left, room_answer};
+ghost use Rattle.sorted.specs.Keyed.{Rising, at_most, front, leading, first_of, without, up_to_key, of_key, inserted, left, room_answer};
 ghost use Rattle.std.specs.List.{insert as opened, remove, position};
 
 use super::keys::{Keyed, TotalOrder};
@@ -9,21 +10,22 @@ use refusal::{Layer, Reason, Refusal};
 
 // The place after the leading records whose keys come before the key or tie with it.
 fn place_after<T: Keyed>(records: &[T], key: T::Key) -> usize
+    requires { Rising (at_most T.Key.cmp) T.keyed records.now }
     ensures { result ≡ front (up_to_key (at_most T.Key.cmp) T.keyed key) records.now }
 {
-    records
-        .iter()
-        .take_while(|record| record.key() <= key)
-        .count()
+    records.partition_point(|record| record.key() <= key)
 }
 
-// The place of the first record that has the key.
+// The place of the record that has the key.
 fn place_of<T: Keyed>(records: &[T], key: T::Key) -> Option<usize>
 where
     T::Key: TotalOrder,
+    requires { Rising (at_most T.Key.cmp) T.keyed records.now }
     ensures { result ≡ position (of_key (at_most T.Key.cmp) T.keyed key) records.now }
 {
-    records.iter().position(|record| record.key().same(&key))
+    records
+        .binary_search_by_key(&key, |record| record.key())
+        .ok()
 }
 
 // Puts the item at the place `at` of the first `count` records.
@@ -50,6 +52,7 @@ fn remove_at<T: Copy>(records: &mut [T], count: usize, at: usize) -> T
 
 // Inserts the item after the records whose keys come before its key or tie with it; refuses a full slice.
 pub(crate) fn insert_in<T: Keyed>(records: &mut [T], count: usize, item: T) -> Result<(), Refusal>
+    requires { Rising (at_most T.Key.cmp) T.keyed (take count records.old) }
     ensures answer { result ≡ room_answer (nat_lt count (length records.old)) }
     ensures held { is_ok result ≡ true → take (count + 1) records.new ≡ inserted (at_most T.Key.cmp) T.keyed item (take count records.old) }
     ensures kept { is_ok result ≡ false → records.new ≡ records.old }
@@ -62,17 +65,16 @@ pub(crate) fn insert_in<T: Keyed>(records: &mut [T], count: usize, item: T) -> R
     Ok(())
 }
 
-// The first record that has the key.
+// The record that has the key.
 pub(crate) fn find_in<T: Keyed>(records: &[T], key: T::Key) -> Option<T>
 where
     T::Key: TotalOrder,
+    requires { Rising (at_most T.Key.cmp) T.keyed records.now }
     ensures answer { result ≡ first_of (of_key (at_most T.Key.cmp) T.keyed key) records.now }
     ensures key { IfSome result (λ y. T.keyed y ≡ key) }
 {
-    records
-        .iter()
-        .find(|record| record.key().same(&key))
-        .copied()
+    let at = place_of(records, key)?;
+    Some(records[at])
 }
 
 // Takes out the first record.
@@ -88,11 +90,12 @@ pub(crate) fn pop_in<T: Copy>(records: &mut [T], count: usize) -> Option<T>
     Some(remove_at(records, count, 0))
 }
 
-// Takes out the first record that has the key.
+// Takes out the record that has the key.
 pub(crate) fn remove_in<T: Keyed>(records: &mut [T], count: usize, key: T::Key) -> Option<T>
 where
     T::Key: TotalOrder,
-    requires { count ≤ length records.old }
+    requires within { count ≤ length records.old }
+    requires rising { Rising (at_most T.Key.cmp) T.keyed (take count records.old) }
     ensures answer { result ≡ first_of (of_key (at_most T.Key.cmp) T.keyed key) (take count records.old) }
     ensures held { take (left result count) records.new ≡ without (of_key (at_most T.Key.cmp) T.keyed key) (take count records.old) }
     ensures kept { is_some result ≡ false → records.new ≡ records.old }

@@ -10,20 +10,21 @@ use super::keys::{Keyed, TotalOrder};
 use super::lists::{find_in, insert_in, pop_in, remove_in};
 use refusal::{Layer, Reason, Refusal};
 
-/// Records in rising order of key, at the front of a lent slice; what stands behind them is free space.
+/// Records at the front of a lent slice; what stands behind them is free space. Every sorted slice holds its records in
+/// strictly rising order of key.
 #[derive(Drop)]
 pub struct SortedSlice<'a, T: Keyed> {
     records: &'a mut [T],
     count: usize,
-    ghost within: { count ≤ length records.now },
-    ghost rising: { Rising (at_most T.Key.cmp) T.keyed (take count records.now) } by { rising_single (at_most T.Key.cmp) T.keyed (take count records.now) },
+    pub ghost within: { count ≤ length records.now },
+    pub ghost rising: { Rising (at_most T.Key.cmp) T.keyed (take count records.now) } by { rising_single (at_most T.Key.cmp) T.keyed (take count records.now) },
 }
 
 impl<'a, T: Keyed> SortedSlice<'a, T>
 where
     T::Key: TotalOrder,
 {
-    ghost use Rattle.sorted.specs.Held.{held, room, has_room, Same, KeepsRising};
+    ghost use Rattle.sorted.specs.Held.{held, room, has_room, Same};
 
     /// Makes a sorted slice that holds nothing. What stood in the lent slice is free space.
     pub fn new(records: &'a mut [T]) -> SortedSlice<'a, T>
@@ -57,7 +58,6 @@ where
         ensures count { self.new.count ≡ (if is_ok result then self.old.count + 1 else self.old.count) }
         ensures kept { is_ok result ≡ false → Same self.old self.new }
         ensures room { room self.new ≡ room self.old }
-        ensures rising { KeepsRising (at_most T.Key.cmp) T.keyed self.old self.new }
     {
         if self.find(item.key()).is_some() {
             return Err(Refusal::new(Reason::Repeated, Layer::Shelf, 0));
@@ -75,7 +75,6 @@ where
         ensures count { self.new.count ≡ (if is_ok result then length (held self.old) - 1 else self.old.count) }
         ensures kept { is_ok result ≡ false → Same self.old self.new }
         ensures room { room self.new ≡ room self.old }
-        ensures rising { KeepsRising (at_most T.Key.cmp) T.keyed self.old self.new }
     {
         let taken = pop_in(self.records, self.count).ok_or(missing())?;
         self.count -= 1;
@@ -90,7 +89,6 @@ where
         ensures count { self.new.count ≡ (if is_ok result then length (held self.old) - 1 else self.old.count) }
         ensures kept { is_ok result ≡ false → Same self.old self.new }
         ensures room { room self.new ≡ room self.old }
-        ensures rising { KeepsRising (at_most T.Key.cmp) T.keyed self.old self.new }
     {
         let taken = remove_in(self.records, self.count, key).ok_or(missing())?;
         self.count -= 1;

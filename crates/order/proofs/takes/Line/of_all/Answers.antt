@@ -20,9 +20,6 @@ loop-place-init g c = record {
   free = omega (arith, c.new-2.ensures.room, c.requires);
 }
 
-pub begin-requires-clause-within : goal.begin-requires-clause-within
-begin-requires-clause-within g c = omega (arith, (g.T.PairTable.lawful c.args.table.now).few, c.size-place-end.ensures)
-
 pub loop-place-preserved : goal.loop-place-preserved
 loop-place-preserved g c =
     let i = c.loop-place.invariant in

@@ -29,8 +29,8 @@ returns-in_err-first-clause-left g c =
     let no = none_left m.size line.tallies.records (held line.waiting) line.lined _ _ _ c.pop_first.ensures.answer c.ok.ensures.value c.in_err-first.was in
     no ∙ sym (ap (after_next m.partners) no)
 
-pub stop-requires : goal.stop-requires
-stop-requires g c =
+pub overflow_cast-first : goal.overflow_cast-first
+overflow_cast-first g c =
     let R = c.args.self.now.tallies.records in
     let W = held c.args.self.now.waiting in
     let ld : leading W ≡ Some c.in_ok-first.first = lead_told (leading W) _ _ _ _ c.pop_first.ensures.answer c.ok.ensures.value c.in_ok-first.was in

@@ -22,21 +22,22 @@ let_pass test why place h = grind arith
 pub both_pass : (a b : Bool) (why other : Reason) (i : ℕ) → option_or (refuse_if a why i) (refuse_if b other i) ≡ None → (a ≡ false) × (b ≡ false)
 both_pass a b why other i h = grind arith
 
+-- a run over the numbers below n has at each place the number of the place
+pub at_number : (p : Run nat_range_steps) (n k : ℕ) → p.from ≡ record { start = 0; end = n } → k < p.len → p.at k ≡ Some k
+at_number p n k from lt = grind (arith, range_runs)
+
 module _ (fault : ℕ → Option Refusal) where
   -- none up to i and one at i: that is the first
   pub first_here : (i n : ℕ) (e : Refusal) → first_fault fault i ≡ None → fault i ≡ Some e → i < n → first_fault fault n ≡ Some e
   first_here i zero e before here lt = absurd (omega arith)
   first_here i (suc n) e before here lt = grind (arith, first_here i n)
 
-  all_none : (n : ℕ) → ((k : ℕ) → k < n → fault k ≡ None) → first_fault fault n ≡ None
+  pub all_none : (n : ℕ) → ((k : ℕ) → k < n → fault k ≡ None) → first_fault fault n ≡ None
   all_none zero none = refl
   all_none (suc n) none = grind (arith, all_none n)
 
   -- `find_map` over the numbers below n gives the first fault, where its closure gives the fault at each number
   module _ {F : Type 0} {g : Mut F (ℕ × Unit {0}) (Option Refusal)} {f : F} (gives : (k : ℕ) (o : Option Refusal) (h : F) → Called g f (k, tt) o h → (h ≡ f) × (o ≡ fault k)) where
-    at_number : (p : Run nat_range_steps) (n k : ℕ) → p.from ≡ record { start = 0; end = n } → k < p.len → p.at k ≡ Some k
-    at_number p n k from lt = grind (arith, range_runs)
-
     pub first_found : {n : ℕ} {r : Option Refusal} → SomeRun nat_range_steps (record { start = 0; end = n }) (λ p. MatchOption r (IsTrue p.whole × AllItemsGive p g f None) (λ y. (i : ℕ) × (i < p.len) × (p.len ≡ i + 1) × IsFirstToGive p g f (Some y) None i)) → r ≡ first_fault fault n
     first_found {n = n} {r = None} (p, from, (whole, all)) =
         let long : p.len ≡ n - 0 = (range_runs p p.seen).1 whole ∙ ap (λ (s : Range ℕ). s.end - s.start) from in

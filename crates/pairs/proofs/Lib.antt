@@ -3,4 +3,4 @@ pub mod Standing
 pub mod Pigeons
 pub mod Chosen
 pub mod Listed
-pub mod Turns
+pub mod Rising

@@ -3,7 +3,7 @@
 ghost use Rattle.std.specs.Prelude.{◌≡◌};
 ghost use Rattle.pairs.specs.Checks.{stands};
 
-// Whether the place stands in the list.
+// Whether the place stands in the list, from end to end: a selection's list does not rise, and no type says that these do.
 pub(crate) fn stands(list: &[u16], place: usize) -> bool
     ensures { result ≡ stands list.now place }
 {

@@ -10,7 +10,8 @@ use super::table::PairTable;
 use refusal::{Layer, Reason, Refusal};
 
 /// For each place the list of its partners: the lists stand end to end in one lent space, the end of each in another.
-/// 16 bits hold every end, since 256 lists of different places have at most 65,280 entries.
+/// 16 bits hold every end, since 256 lists of different places have at most 65,280 entries. Both spaces are the caller's: the
+/// library has no heap.
 #[derive(Drop)]
 pub struct PartnerLists<'a> {
     ends: &'a [u16],
@@ -21,15 +22,7 @@ pub struct PartnerLists<'a> {
 fn is_rising(list: &[u16], size: usize) -> bool
     ensures { result ≡ rising size 0 list.now }
 {
-    let mut least = 0;
-    for entry in list {
-        let place = *entry as usize;
-        if place < least || place >= size {
-            return false;
-        }
-        least = place + 1;
-    }
-    true
+    list.is_sorted_by(|a, b| a < b) && list.iter().all(|&place| (place as usize) < size)
 }
 
 impl<'a> PartnerLists<'a> {
@@ -43,6 +36,7 @@ impl<'a> PartnerLists<'a> {
         ensures spaces { IfOk result (λ t. (t.ends.now ≡ ends.now) × (t.entries.now ≡ entries.now)) }
         ensures meaning { IfOk result (λ t. Listed ends.now entries.now (lists_meaning t.ends.now t.entries.now)) }
     {
+        // The first fault is searched for, so it is told as an `Option` until here.
         let lists = PartnerLists { ends, entries };
         if let Some(refusal) = lists.fault() {
             return Err(refusal);
@@ -57,7 +51,8 @@ impl<'a> PartnerLists<'a> {
         if self.ends.len() > 256 {
             return Some(Refusal::new(Reason::TooMany, Layer::Table, 256));
         }
-        // `or_else` gets no proof: nothing is known yet of a closure there that borrows a struct with a lifetime.
+        // No `or_else`: of a closure that borrows a struct with a lifetime, a method that takes an `FnOnce`, as those of
+        // `Option`, ensures nothing; an iterator's takes an `FnMut`, and does.
         match self.first_list_fault() {
             None => self.first_side_fault(),
             first => first,
@@ -100,11 +95,7 @@ impl<'a> PartnerLists<'a> {
     fn side_fault(&self, u: usize) -> Option<Refusal>
         ensures { result ≡ side_fault self.now.ends.now self.now.entries.now u }
     {
-        if self.is_named_back(u) {
-            None
-        } else {
-            Some(Refusal::new(Reason::OneSided, Layer::Table, u))
-        }
+        (!self.is_named_back(u)).then(|| Refusal::new(Reason::OneSided, Layer::Table, u))
     }
 
     // Whether each place that the list of `u` names has `u` in its own list.
@@ -124,14 +115,14 @@ impl<'a> PartnerLists<'a> {
         &self.entries[self.start(u).min(end)..end]
     }
 
-    // Where the list of `u` begins.
+    // Where the list of `u` begins: where the one before it ends, and the first at 0.
     fn start(&self, u: usize) -> usize
         ensures { result ≡ list_start self.now.ends.now u }
     {
         if u == 0 { 0 } else { self.end(u - 1) }
     }
 
-    // Where the list of `u` ends, or 0 at or above the size.
+    // Where the list of `u` ends. From the size on no list stands, and 0, where the first begins, leaves an empty one.
     fn end(&self, u: usize) -> usize
         ensures { result ≡ list_end self.now.ends.now u }
     {

@@ -33,7 +33,7 @@ fn entry_fault(size: usize, chosen: &[u16], i: usize) -> Option<Refusal>
     }
 }
 
-// The first entry's fault, or none.
+// The first entry's fault, or none. The search goes by place, since each test reads the entries before it.
 fn selection_fault(size: usize, chosen: &[u16]) -> Option<Refusal>
     ensures { result ≡ selection_fault size chosen.now }
 {
@@ -89,11 +89,11 @@ impl<T: Stamped> Stamped for Selection<'_, T> {
 
     ghost distinct = { λ s. selected_distinct (T.Stamped.stamps s.below) s.chosen.now s.apart (T.Stamped.distinct s.below) };
 
+    // A table tells 0 where a place has no stamp.
     fn stamp(&self, u: usize) -> u16 {
-        // `map_or` gets no proof, as in `PartnerLists::fault`.
-        match self.chosen.get(u) {
-            Some(&entry) => self.below.stamp(entry as usize),
-            None => 0,
-        }
+        let below = &self.below;
+        self.chosen
+            .get(u)
+            .map_or(0, |&entry| below.stamp(entry as usize))
     }
 }

@@ -19,6 +19,7 @@ fn partners_twice<T: PairTable>(
     ensures below { result.1 ≡ below }
     ensures answer { IfSome result.0 (λ b. b ≡ (selected (selected (T.PairTable.meaning below) outer.now) inner.now).partners u v) }
 {
+    // A refusal hands the table back, and so does this function: neither match is a `?`.
     let middle = match Selection::new(below, outer) {
         Ok(middle) => middle,
         Err((_, below)) => return (None, below),

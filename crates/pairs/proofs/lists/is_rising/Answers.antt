@@ -1,14 +1,15 @@
-use Rattle.std.proofs.Common.{sym, ◌∙◌}
-use Rattle.std.proofs.lemmas.List.{at_drop_all}
-use Rattle.pairs.specs.Lists.{rising}
-use Rattle.pairs.proofs.Turns.{rising_stop, rising_on}
+use Rattle.std.proofs.Common.{ltb, rules, of_calls}
+use Rattle.std.proofs.iter.runs.Made.{chains}
+use Rattle.std.proofs.lemmas.List.Sorted.{answers_always}
 use Rattle.pairs.proofs.lists.is_rising.Goals as goal
+use Rattle.pairs.proofs.Rising.{sorted, unsorted}
 
-pub returns-then-place-least : goal.returns-then-place-least
-returns-then-place-least c = sym (c.loop-entry.invariant ∙ rising_stop _ _ _ _ c.loop-entry-test.true c.then-place-least.either)
+pub returns-then-is_sorted_by : goal.returns-then-is_sorted_by
+returns-then-is_sorted_by c =
+    let next = rw c.if-is_sorted_by.true at c.is_sorted_by.ensures.cases ltb (answers_always _ _ _ (λ f a r g k. search (rules, of_calls))) in
+    sorted c.args.size c.args.list.now c.all.result next (search (rules, chains)) (search (rules, chains))
 
-pub loop-entry-preserved : goal.loop-entry-preserved
-loop-entry-preserved c = c.loop-entry.invariant ∙ rising_on _ _ _ _ c.loop-entry-test.true c.if-place-least.false c.if-place-size.false
-
-pub returns : goal.returns
-returns c = sym (c.loop-entry.invariant ∙ at_drop_all (rising c.args.size c.loop-entry.least) c.args.list.now _ c.loop-entry-test.false)
+pub returns-else-is_sorted_by : goal.returns-else-is_sorted_by
+returns-else-is_sorted_by c =
+    let next = rw c.if-is_sorted_by.false at c.is_sorted_by.ensures.cases ltb (answers_always _ _ _ (λ f a r g k. search (rules, of_calls))) in
+    rw c.if-is_sorted_by.false (unsorted c.args.size c.args.list.now next.0 next.1 next.2)

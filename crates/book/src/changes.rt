@@ -1,4 +1,5 @@
-//! Changes of an open book, by places: one pair or one withdrawn roll, and everything else as it was.
+//! Changes of an open book, by places: one pair or one withdrawn roll, and everything else as it was. The book has numbers
+//! only, so its spaces come with each call.
 
 ghost use Rattle.book.specs.Changes.{PairChanged, answering, beyond, pair_fault, roll_fault, short_spaces, with_roll};
 ghost use Rattle.std.specs.Prelude.{◌≡◌, ◌<◌, ◌≤◌, true, false, length, is_ok, if◌then◌else◌, Some};

@@ -7,9 +7,9 @@ ghost use Rattle.refusal.specs.declared.Layer.TheVariants.{Book};
 
 use refusal::{Layer, Reason, Refusal};
 
-/// The rule that a record breaks; `below` is what the index refused, where the fault rests on that.
+// The rule that a record breaks; `below` is what the index refused, where the fault rests on that.
 #[derive(Clone, Copy, PartialEq, Eq, Debug)]
-pub struct Fault {
+pub(crate) struct Fault {
     pub(crate) why: Reason,
     pub(crate) below: Option<Reason>,
 }
@@ -27,9 +27,9 @@ impl Fault {
     pub(crate) fn at(self, place: usize) -> Refusal
         ensures { result ≡ refused_over self.why Book place self.below }
     {
-        match self.below {
-            Some(below) => Refusal::over(self.why, Layer::Book, place, below),
-            None => Refusal::new(self.why, Layer::Book, place),
+        Refusal {
+            below: self.below,
+            ..Refusal::new(self.why, Layer::Book, place)
         }
     }
 }

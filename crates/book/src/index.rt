@@ -17,7 +17,7 @@ pub struct IndexRecord {
 }
 
 impl IndexRecord {
-    /// No record: stamp and place are 0.
+    /// No record: stamp and place are 0. A constant, as `Card::NONE` is.
     pub const NONE: IndexRecord = IndexRecord { stamp: 0, place: 0 };
 }
 
@@ -31,9 +31,9 @@ impl Keyed for IndexRecord {
     }
 }
 
-/// The places of the cards taken in so far, by stamp, in a lent space.
+// The places of the cards taken in so far, by stamp, in a lent space.
 #[derive(Drop)]
-pub struct Index<'a> {
+pub(crate) struct Index<'a> {
     records: SortedSlice<'a, IndexRecord>,
     ghost room: { room records ≡ 256 },
 }

@@ -21,7 +21,9 @@ fn pair_bit(u: usize, v: usize) -> usize
 fn is_set(marks: &[u8], bit: usize) -> bool
     ensures { result ≡ bit_at marks.now bit }
 {
-    bit / 8 < marks.len() && (marks[bit / 8] >> (bit % 8)) % 2 == 1
+    marks
+        .get(bit / 8)
+        .is_some_and(|&byte| (byte >> (bit % 8)) % 2 == 1)
 }
 
 // Turns a bit.

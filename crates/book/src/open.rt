@@ -5,7 +5,8 @@ ghost use Rattle.std.specs.Prelude.{◌≡◌, false, if◌then◌else◌, nat_l
 use crate::sizes::CARDS;
 use format::Rule;
 
-/// What a book says besides its cards and pairs: its rule, if it has one, and which places are withdrawn.
+/// What a book says besides its cards and pairs: its rule, if it has one, and which places are withdrawn, in a fixed array,
+/// since the library has no heap.
 #[derive(Clone, Copy, PartialEq, Eq, Debug)]
 pub struct Notes {
     pub(crate) rule: Option<Rule>,
@@ -13,7 +14,7 @@ pub struct Notes {
 }
 
 impl Notes {
-    // No rule, and no roll withdrawn.
+    // No rule, and no roll withdrawn. A constant, since an array of 256 has no `Default`.
     pub(crate) const NONE: Notes = Notes {
         rule: None,
         withdrawn: [false; CARDS],
@@ -46,6 +47,6 @@ impl OpenBook {
     pub fn is_withdrawn(&self, place: usize) -> bool
         ensures { result ≡ (if nat_lt place 256 then slice_index_or self.now.notes.withdrawn place false else false) }
     {
-        place < CARDS && self.notes.withdrawn[place]
+        self.notes.withdrawn.get(place).copied().unwrap_or(false)
     }
 }

@@ -15,9 +15,9 @@ use crate::sizes::{CARDS, MARK_BYTES};
 use format::{Card, Record, Section, decode};
 use refusal::{Layer, Reason, Refusal};
 
-/// How far a book has been read, over the spaces that it is read into.
+// How far a book has been read, over the spaces that it is read into.
 #[derive(Drop)]
-pub struct Reader<'a, 'i, 's> {
+pub(crate) struct Reader<'a, 'i, 's> {
     pub(crate) section: Section,
     pub(crate) notes: Notes,
     pub(crate) cards: &'a mut [Card; CARDS],

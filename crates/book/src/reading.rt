@@ -12,7 +12,8 @@ use crate::sizes::{BYTES, CARDS, MARK_BYTES};
 use format::{Card, Section};
 use refusal::{Layer, Reason, Refusal};
 
-// Zeroes the spaces.
+// Zeroes the spaces. They are the caller's three, and go side by side through this file: of a struct over the three
+// `&mut` the proof loses what the spaces end as.
 fn clear(cards: &mut [Card; CARDS], marks: &mut [u8; MARK_BYTES], index: &mut [IndexRecord; CARDS])
     ensures cards { cards.new ≡ replicate 256 no_card }
     ensures marks { marks.new ≡ replicate 4080 0 }

@@ -14,7 +14,7 @@ pub struct Card {
 }
 
 impl Card {
-    /// No card: every field is 0.
+    /// No card: every field is 0. A constant, since the spaces that are lent are arrays of it: `[Card::NONE; 256]`.
     pub const NONE: Card = Card {
         stamp: 0,
         family: 0,

@@ -1,5 +1,8 @@
 -- What chains of iterators give, in the words of the theory.
 use Rattle.std.proofs.Common.{◌≡◌, ℕ, zero, suc, ◌+◌, ◌-◌, Bool, true, false, cond, not, ◌&&◌, ◌||◌, eqb, ltb, List, [], ◌∷◌, ◌++◌, get_or, inl, inr, refl, sym, ap, ◌∙◌, subst, Some, None, Option, Ok, Err, Result, ◌≢◌, ◌<◌, ◌≤◌, arith}
+use Rattle.std.specs.Iterator.{ChecksAny}
+use Rattle.std.proofs.lemmas.Iterator.{YieldsList-from_range}
+use Rattle.std.proofs.lemmas.Iterator.Search.{any_from_yields_List}
 use Rattle.std.specs.Iterator.Runs.{Run, SomeRun, CallKeepsClosure, AllItemsGive, IsFirstToGive}
 use Rattle.std.specs.declared.ops.Range.{Range}
 use Rattle.std.proofs.iter.Yields.{nat_range_steps}
@@ -60,15 +63,23 @@ range_places (suc n) =
     let e : 0 + n ≡ n = omega arith in
     range_end 0 n ∙ (ap (λ (x : ℕ). range_with_len 0 n ++ (x ∷ [])) e ∙ ap (λ (t : List ℕ). t ++ (n ∷ [])) (range_places n))
 
-pub none_places : (p : ℕ → Bool) (n : ℕ) → not (list_any p (range_with_len 0 n)) ≡ every (λ x. not (p x)) (places n)
+none_places : (p : ℕ → Bool) (n : ℕ) → not (list_any p (range_with_len 0 n)) ≡ every (λ x. not (p x)) (places n)
 none_places p n = none_every p (range_with_len 0 n) ∙ ap (every (λ x. not (p x))) (range_places n)
 
-twice_not : (b : Bool) → b ≡ not (not b)
+twice_not : (b : Bool) → not (not b) ≡ b
 twice_not true = refl
 twice_not false = refl
 
-pub any_places : (p : ℕ → Bool) (n : ℕ) → list_any p (range_with_len 0 n) ≡ not (every (λ x. not (p x)) (places n))
-any_places p n = twice_not (list_any p (range_with_len 0 n)) ∙ ap not (none_places p n)
+-- `any` over the places below n
+module _ {F : Type 0} {g : Mut F (ℕ × Unit {0}) Bool} {f : F} (p : ℕ → Bool) {k n : ℕ} {r : Bool} {u : Range ℕ} (size : k ≡ n)
+    (ran : ChecksAny nat_range_steps g (record { start = 0; end = k }) f r u) (gives : (x : ℕ) (b : Bool) (q : F) → Called g f (x, tt) b q → (q ≡ f) × (b ≡ p x)) where
+  pub none_below : not r ≡ every (λ x. not (p x)) (places n)
+  none_below =
+      ap not (any_from_yields_List p u f r ran (YieldsList-from_range 0 k n refl (omega (arith, size))) gives)
+      ∙ none_places p n
+
+  pub any_below : r ≡ not (every (λ x. not (p x)) (places n))
+  any_below = sym (twice_not r) ∙ ap not none_below
 
 first_find : (p : ℕ → Bool) (L : List ℕ) → unwrap_or (find p L) 0 ≡ first_of p L
 first_find p [] = refl

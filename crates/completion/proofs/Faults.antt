@@ -1,35 +1,38 @@
--- The first entry that a check refuses, and a check that refuses nothing.
-use Rattle.std.proofs.Common.{◌≡◌, ℕ, zero, suc, ◌<◌, ◌≤◌, Bool, true, false, cond, Some, None, Option, refl, sym, ap, ◌∙◌, arith, IsSomeAnd}
-use Rattle.std.specs.Option.{option_or, MatchOption}
+-- The first number at which a test holds, and the refusal there.
+use Rattle.std.proofs.Common.{◌≡◌, ℕ, ◌+◌, ◌-◌, ◌<◌, ◌≤◌, Bool, true, false, None, Option, sym, ap, ◌∙◌, subst, arith}
+use Rattle.std.specs.Prelude.{IsTrue, IfSome, IsSomeAnd}
+use Rattle.std.specs.Iterator.Runs.{SomeRun, CallKeepsClosure, AllItemsGive, IsFirstToGive}
+use Rattle.std.specs.declared.ops.Range.{Range}
+use Rattle.std.proofs.iter.Yields.{nat_range_steps}
+use Rattle.std.proofs.iter.runs.Sources.{range_runs}
+use denote.Param.Members.{Mut, Called}
 use Rattle.refusal.specs.declared.Refusal.{Refusal}
+use Rattle.refusal.specs.declared.Reason.{Reason}
 use Rattle.pairs.specs.Checks.{first_fault}
-use Rattle.pairs.proofs.Faults.{first_here}
+use Rattle.pairs.proofs.Faults.{all_none, at_number, first_here}
+use Rattle.completion.specs.Checks.{refuse_if}
 
-pub passes : (o f : Option Refusal) → o ≡ f → (P : Type 0) (Q : Refusal → Type 0) → MatchOption o P Q → ((e : Refusal) → Q e → ⊥) → None ≡ f
-passes None f q P Q m wrong = q
-passes (Some e) f q P Q m wrong = absurd (wrong e m)
-
-is_some : (o : Option Refusal) (Q : Refusal → Type 0) (e : Refusal) → IsSomeAnd o Q → ((x : Refusal) → Q x → x ≡ e) → o ≡ Some e
-is_some None Q e h same = absurd h
-is_some (Some x) Q e h same = ap Some (same x h)
-
-none_all : (fault : ℕ → Option Refusal) (n : ℕ) → ((k : ℕ) → k < n → fault k ≡ None) → first_fault fault n ≡ None
-none_all fault zero none = refl
-none_all fault (suc n) none =
-    ap (λ (o : Option Refusal). option_or o (fault n)) (none_all fault n (λ k h. none k (omega arith))) ∙ none n (omega arith)
-
-module _ (test : ℕ → Bool) (e : ℕ → Refusal) (n : ℕ) where
+module _ (test : ℕ → Bool) (why : Reason) (n : ℕ) {F : Type 0} {g : Mut F (ℕ × Unit {0}) Bool} {f : F} (keeps : CallKeepsClosure g f)
+    (gives : (k : ℕ) (b : Bool) → k < n → Called g f (k, tt) b f → b ≡ test k) where
   abbrev fault : ℕ → Option Refusal
-  fault i = cond (test i) (Some (e i)) None
+  fault i = refuse_if (test i) why i
 
-  no_fault : (k : ℕ) → test k ≡ false → fault k ≡ None
-  no_fault k q = ap (λ (b : Bool). cond b (Some (e k)) None) q
+  abbrev Start : Range ℕ
+  Start = record { start = 0; end = n }
 
-  -- the first number below n at which the test holds, and the refusal that it is mapped to
-  pub fault_found : (Q : ℕ → Refusal → Type 0) (r : Option ℕ) (o : Option Refusal)
-      → MatchOption r ((k : ℕ) → 0 ≤ k → k < n → test k ≡ false) (λ i. (0 ≤ i) × (i < n) × (test i ≡ true) × ((k : ℕ) → 0 ≤ k → k < i → test k ≡ false))
-      → MatchOption r (o ≡ None) (λ i. IsSomeAnd o (Q i)) → ((i : ℕ) (x : Refusal) → Q i x → x ≡ e i) → o ≡ first_fault fault n
-  fault_found Q None o f m same = m ∙ sym (none_all fault n (λ k h. no_fault k (f k (omega arith) h)))
-  fault_found Q (Some i) o f m same =
-      is_some o (Q i) (e i) m (same i)
-      ∙ sym (first_here fault i n (e i) (none_all fault i (λ k h. no_fault k (f.3 k (omega arith) h))) (ap (λ (b : Bool). cond b (Some (e i)) None) f.2) f.1)
+  at : (b : Bool) (k : ℕ) → k < n → Called g f (k, tt) b f → fault k ≡ refuse_if b why k
+  at b k h c = ap (λ (t : Bool). refuse_if t why k) (sym (gives k b h c))
+
+  pub none_refused : SomeRun nat_range_steps Start (λ p. IsTrue p.whole × AllItemsGive p g f false) → first_fault fault n ≡ None
+  none_refused (p, from, (whole, all)) =
+      let long : p.len ≡ n - 0 = (range_runs p p.seen).1 whole ∙ ap (λ (s : Range ℕ). s.end - s.start) from in
+      all_none fault n (λ k h. at false k h (subst (λ o. IfSome o (λ x. Called g f (x, tt) false f)) (at_number p n k from (omega arith)) (all keeps k)))
+
+  pub first_refused : (i : ℕ) → SomeRun nat_range_steps Start (λ p. (p.len ≡ i + 1) × IsFirstToGive p g f true false i) → first_fault fault n ≡ refuse_if true why i
+  first_refused i (p, from, (last, first)) =
+      let short : p.len ≤ n - 0 = subst (λ m. p.len ≤ m) (ap (λ (s : Range ℕ). s.end - s.start) from) (range_runs p p.seen).0 in
+      let given = first keeps in
+      first_here fault i n _
+      (all_none fault i (λ k h. at false k (omega arith) (subst (λ o. IsSomeAnd o (λ x. Called g f (x, tt) false f)) (at_number p n k from (omega arith)) (given.1 k h))))
+      (at true i (omega arith) (subst (λ o. IsSomeAnd o (λ x. Called g f (x, tt) true f)) (at_number p n i from (omega arith)) given.0))
+      (omega arith)

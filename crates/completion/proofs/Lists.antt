@@ -1,7 +1,7 @@
 -- A member at an index, tests at each place, and the entries at a list's front.
-use Rattle.std.proofs.Common.{◌≡◌, ℕ, zero, suc, ◌+◌, ◌<◌, ◌≤◌, min, Bool, true, false, cond, eqb, ltb, ◌≢◌, List, [], ◌∷◌, ◌++◌, length, get_or, take, drop, set, replicate, sym, refl, ap, ◌∙◌, inl, inr, le_of_suc-le-suc, not-suc-le-zero, arith}
-use Rattle.std.proofs.lemmas.List.{get_or_past, get_or-replicate, get_or-set_same, get_or-set_other, length-replicate, take_all}
-use Rattle.std.proofs.lemmas.Bool.{or_left, or_right, eq-eqb, lt-ltb, le-ltb, cond-true, cond-false, cases_order}
+use Rattle.std.proofs.Common.{◌≡◌, ℕ, zero, suc, ◌+◌, ◌-◌, ◌<◌, ◌≤◌, min, Bool, true, false, cond, eqb, ltb, ◌≢◌, List, [], ◌∷◌, ◌++◌, length, get_or, take, drop, set, replicate, sym, refl, ap, ◌∙◌, inl, inr, le_of_suc-le-suc, not-suc-le-zero, arith}
+use Rattle.std.proofs.lemmas.List.{get_or_append_left, get_or-append_right, take-replicate, drop-replicate, get_or_past, get_or-replicate, get_or-set_same, get_or-set_other, length-replicate, take_all}
+use Rattle.std.proofs.lemmas.Bool.{or_left, or_right, eq-eqb, lt-ltb, le-ltb, cond-true, cond-false, cases_lt, cases_order}
 use Rattle.cliques.specs.Sets.{has, every, places}
 use Rattle.cliques.proofs.Tests.{is_true, is_false, of_true, of_false}
 use Rattle.cliques.proofs.Members.{every_at, every_of, places_in, places_out}
@@ -46,8 +46,20 @@ zeros_at n y =
       | inr z ↦ elim z [ inl h ↦ get_or-replicate {A = ℕ} n y 0 0 h | inr h ↦ get_or_past {X = ℕ} (replicate n 0) y 0 (omega arith) ]
     ]
 
-pub table_none : (f : ℕ → ℕ) (n y : ℕ) → get_or {A = ℕ} (replicate n 0) y 0 ≡ cond (ltb y 0) (f y) 0
-table_none f n y = zeros_at n y ∙ sym (cond-false (ltb y 0) (f y) 0 (le-ltb y 0 (omega arith)))
+pub table_none : (f : ℕ → ℕ) (k n y : ℕ) → k ≤ n → get_or {A = ℕ} (take k (replicate n 0)) y 0 ≡ cond (ltb y 0) (f y) 0
+table_none f k n y h =
+    ap (λ (L : List ℕ). get_or L y 0) (take-replicate k n 0 h) ∙ (zeros_at k y ∙ sym (cond-false (ltb y 0) (f y) 0 (le-ltb y 0 (omega arith))))
+
+-- a table of the places below k, with zeros after it
+pub table_whole : (f : ℕ → ℕ) (L : List ℕ) (k n y : ℕ) → length L ≡ k → get_or L y 0 ≡ cond (ltb y k) (f y) 0
+    → get_or (L ++ drop k (replicate n 0)) y 0 ≡ cond (ltb y k) (f y) 0
+table_whole f L k n y l q =
+    elim (cases_lt y k) [
+      | inl h ↦ get_or_append_left L (drop k (replicate n 0)) 0 y (omega arith) ∙ q
+      | inr h ↦
+          get_or-append_right L (drop k (replicate n 0)) k y 0 l h
+          ∙ (ap (λ (Z : List ℕ). get_or Z (y - k) 0) (drop-replicate k n 0) ∙ (zeros_at (n - k) (y - k) ∙ sym (cond-false (ltb y k) (f y) 0 (le-ltb y k h))))
+    ]
 
 pub table_more : (f : ℕ → ℕ) (L : List ℕ) (x b : ℕ) → x < length L → b ≡ f x → ((y : ℕ) → get_or L y 0 ≡ cond (ltb y x) (f y) 0)
     → (y : ℕ) → get_or (set L x b) y 0 ≡ cond (ltb y (x + 1)) (f y) 0

@@ -11,11 +11,13 @@ use pairs::PairTable;
 /// The largest of them, or the smallest member where that is larger, is the parent index of a maximal clique.
 #[derive(Clone, Copy, PartialEq, Eq, Debug)]
 pub struct Barriers {
+    // A fixed array, since the library has no heap.
     pub at: [u16; 256],
     pub largest: u16,
 }
 
 // The first member that is no partner of `x`, where it lies above `x`; else 0.
+// No `Option`: a barrier lies above its place and so is never 0, and the largest is a plain maximum.
 fn barrier<T: PairTable>(table: &T, x: usize, set: &[u16]) -> u16
     ensures { result ≡ barrier (T.PairTable.meaning table.now) set.now x }
 {
@@ -35,9 +37,9 @@ impl Barriers {
         // In one pass: with the largest sought once all are made, a walk takes up to a tenth longer.
         let mut at = [0; 256];
         let mut largest = smallest(set);
-        for x in 0..table.size() {
-            at[x] = barrier(table, x, set);
-            largest = largest.max(at[x]);
+        for (x, slot) in at[..table.size()].iter_mut().enumerate() {
+            *slot = barrier(table, x, set);
+            largest = largest.max(*slot);
         }
         Barriers { at, largest }
     }

@@ -4,7 +4,7 @@ ghost use Rattle.std.specs.Prelude.{◌≡◌};
 ghost use Rattle.completion.specs.Answers.{completing, indexing, parenting};
 
 use crate::barriers::Barriers;
-use crate::checks::{maximal_fault, set_fault};
+use crate::checks::{check_clique, check_maximal};
 use crate::gather::{completed, completed_below};
 use crate::sets::smallest;
 use crate::standing::Standing;
@@ -18,7 +18,7 @@ pub fn complete<T: PairTable>(table: &T, set: &[u16], out: &mut [u16]) -> Result
     ensures answer { result ≡ (completing (T.PairTable.meaning table.now) set.now out.old).answer }
     ensures space { out.new ≡ (completing (T.PairTable.meaning table.now) set.now out.old).space }
 {
-    set_fault(table, set).map_or(Ok(()), Err)?;
+    check_clique(table, set)?;
     completed(table, set).copy_out(out)
 }
 
@@ -27,7 +27,7 @@ pub fn complete<T: PairTable>(table: &T, set: &[u16], out: &mut [u16]) -> Result
 pub fn parent_index<T: PairTable>(table: &T, set: &[u16]) -> Result<usize, Refusal>
     ensures { result ≡ indexing (T.PairTable.meaning table.now) set.now }
 {
-    maximal_fault(table, set).map_or(Ok(()), Err)?;
+    check_maximal(table, set)?;
     Ok(Barriers::of(table, set).largest as usize)
 }
 
@@ -42,7 +42,7 @@ pub fn parent<T: PairTable>(
     ensures answer { result ≡ (parenting (T.PairTable.meaning table.now) set.now out.old).answer }
     ensures space { out.new ≡ (parenting (T.PairTable.meaning table.now) set.now out.old).space }
 {
-    maximal_fault(table, set).map_or(Ok(()), Err)?;
+    check_maximal(table, set)?;
     let index = Barriers::of(table, set).largest;
     if index == smallest(set) {
         return Ok(None);

@@ -1,4 +1,5 @@
-//! The completion of a clique, and the parent index and the parent of a maximal clique, over every pair table.
+//! The completion of a clique, and the parent index and the parent of a maximal clique, over every pair table. Table and set
+//! are the caller's and come with each call: nothing is kept from one to the next.
 #![tactic(auto)]
 
 mod barriers;

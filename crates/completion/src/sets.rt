@@ -9,6 +9,8 @@ use crate::standing::Standing;
 use pairs::PairTable;
 
 /// Tells whether `w` is a member.
+// The same test stands in `pairs`, private to its own lists and by another definition. One for both would be a public function
+// more and a lemma that the definitions agree, and no plainer.
 pub fn is_member(w: usize, set: &[u16]) -> bool
     ensures { result ≡ has w set.now }
 {
@@ -16,6 +18,7 @@ pub fn is_member(w: usize, set: &[u16]) -> bool
 }
 
 /// The first entry, which is the smallest member of a rising list; 0 where there is none.
+// No `Option`: the largest barrier is a plain maximum that starts from it.
 pub fn smallest(set: &[u16]) -> u16
     ensures { result ≡ smallest set.now }
 {

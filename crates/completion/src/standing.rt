@@ -7,7 +7,9 @@ ghost use Rattle.completion.specs.Standings.{Clean, members_of, standing_of};
 
 use refusal::{Layer, Reason, Refusal};
 
-/// A set of places, or none: at most 256 members at the front, zeros after them.
+/// A set of places, or none: at most 256 members at the front, zeros after them. A fixed array and a count, since the library
+/// has no heap. That zeros follow is no fact of this type: it would cite `standing_of`, which builds the type; a walk's type
+/// has it.
 #[derive(Clone, Copy, PartialEq, Eq, Debug)]
 pub struct Standing {
     members: [u16; 256],

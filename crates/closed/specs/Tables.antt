@@ -28,7 +28,7 @@ table_of cs told = record { size = size_of cs; partners = λ u v. below (size_of
 
 -- partners by pair marks
 abbrev pub pair_graph : List Card → List ℕ → Graph
-pair_graph cs ms = record { size = size_of cs; partners = λ u v. below (size_of cs) u v && tells ms u v }
+pair_graph cs ms = table_of cs (tells ms)
 
 -- two numbers at most t apart
 abbrev pub near : ℕ → ℕ → ℕ → Bool
@@ -48,7 +48,7 @@ apart_agreeing r cs u v = not (u == v) && agree r (slice_index_or cs u no_card) 
 
 -- partners under a rule: never a roll with itself
 abbrev pub rule_graph : List Card → Rule → Graph
-rule_graph cs r = record { size = size_of cs; partners = λ u v. below (size_of cs) u v && (not (u == v) && agree r (slice_index_or cs u no_card) (slice_index_or cs v no_card)) }
+rule_graph cs r = table_of cs (apart_agreeing r cs)
 
 -- the stamp that a place tells: that of its card, where it is in range and on no earlier card
 abbrev pub stamp_told : List Card → ℕ → ℕ

@@ -1,6 +1,6 @@
 //! What cards tell: how many places there are, stamps, and which two agree under a rule.
 
-ghost use Rattle.closed.specs.Tables.{agree, near, near_crowns, size_of, stamp_told};
+ghost use Rattle.closed.specs.Tables.{agree, size_of, stamp_told};
 ghost use Rattle.format.specs.Grammar.{on_card};
 ghost use Rattle.std.specs.Prelude.{◌≡◌};
 
@@ -19,31 +19,15 @@ pub(crate) fn has_stamp(cards: &[Card], stamp: u16) -> bool
     cards.iter().any(|card| card.stamp == stamp)
 }
 
-// The stamp that a place tells: of cards with one stamp only the first tells it.
+// The stamp that a place tells: of cards with one stamp only the first tells it. A table tells 0 where a place has none.
 pub(crate) fn stamp_of(cards: &[Card], place: usize) -> u16
     ensures { result ≡ stamp_told cards.now place }
 {
-    if place >= size_of(cards) {
-        return 0;
+    match cards[..size_of(cards)].get(place) {
+        Some(card) if stamp_in_range(card.stamp) && !has_stamp(&cards[..place], card.stamp) =>
+            card.stamp,
+        _ => 0,
     }
-    let stamp = cards[place].stamp;
-    if stamp_in_range(stamp) && !has_stamp(&cards[..place], stamp) {
-        stamp
-    } else {
-        0
-    }
-}
-
-fn diameters_near(a: u32, b: u32, tolerance: u16) -> bool
-    ensures { result ≡ near tolerance a b }
-{
-    a.abs_diff(b) <= u32::from(tolerance)
-}
-
-fn crowns_near(a: i16, b: i16, tolerance: u16) -> bool
-    ensures { result ≡ near_crowns tolerance a b }
-{
-    a.abs_diff(b) <= tolerance
 }
 
 // Whether two cards make partners under the rule.
@@ -53,6 +37,6 @@ pub(crate) fn agreeing(rule: Rule, c: Card, d: Card) -> bool
     let both_read = c.diameter != 0 && d.diameter != 0;
     both_read
         && c.family == d.family
-        && diameters_near(c.diameter, d.diameter, rule.diameter)
-        && crowns_near(c.crown, d.crown, rule.crown)
+        && c.diameter.abs_diff(d.diameter) <= u32::from(rule.diameter)
+        && c.crown.abs_diff(d.crown) <= rule.crown
 }

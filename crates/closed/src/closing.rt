@@ -24,7 +24,7 @@ fn card_fault(cards: &[Card], place: usize) -> Option<Refusal>
     }
 }
 
-// The fault of the first card that has one.
+// The fault of the first card that has one. The search goes by place, since each test reads the cards before it.
 fn first_fault(cards: &[Card]) -> Option<Refusal>
     ensures { result ≡ close_fault cards.now }
 {

@@ -13,7 +13,7 @@ use format::{Card, Rule};
 use pairs::{PairTable, Stamped};
 
 // By what two rolls of a book are partners.
-pub(crate) trait Terms {
+pub(crate) trait Partnership {
     // Whether two places are told to be partners, by the cards of the book.
     ghost told: { Self → List Card → ℕ → ℕ → Bool };
 
@@ -26,7 +26,7 @@ pub(crate) trait Terms {
         ensures { result ≡ told self.now cards.now u v };
 }
 
-impl Terms for Marks<'_> {
+impl Partnership for Marks<'_> {
     ghost told = { λ marks cards. tells marks.bytes.now };
 
     ghost lawful = { λ marks cards. pairs_lawful cards marks.bytes.now };
@@ -36,7 +36,7 @@ impl Terms for Marks<'_> {
     }
 }
 
-impl Terms for Rule {
+impl Partnership for Rule {
     ghost told = { λ rule cards. apart_agreeing rule cards };
 
     ghost lawful = { λ rule cards. rule_lawful cards rule };
@@ -46,22 +46,22 @@ impl Terms for Rule {
     }
 }
 
-impl<T: Terms> PairTable for Closed<'_, T> {
-    ghost meaning = { λ t. table_of t.cards.now (T.Terms.told t.terms t.cards.now) };
+impl<T: Partnership> PairTable for Closed<'_, T> {
+    ghost meaning = { λ t. table_of t.cards.now (T.Partnership.told t.terms t.cards.now) };
 
-    ghost lawful = { λ t. T.Terms.lawful t.terms t.cards.now };
+    ghost lawful = { λ t. T.Partnership.lawful t.terms t.cards.now };
 
     fn size(&self) -> usize {
         size_of(self.cards)
     }
 
     fn partners(&self, u: usize, v: usize) -> bool {
-        let size = size_of(self.cards);
+        let size = self.size();
         u < size && v < size && self.terms.tell(self.cards, u, v)
     }
 }
 
-impl<T: Terms> Stamped for Closed<'_, T> {
+impl<T: Partnership> Stamped for Closed<'_, T> {
     ghost stamps = { λ t. stamp_told t.cards.now };
 
     ghost distinct = { λ t. stamps_distinct t.cards.now };

@@ -1,18 +1,16 @@
 -- What is counted after a reading is what the book says: each pair and each withdrawn roll is one.
-use Rattle.std.proofs.Common.{◌≡◌, ℕ, zero, suc, ◌+◌, ◌<◌, ◌≤◌, Bool, true, false, cond, eqb, ltb, List, [], ◌∷◌, ◌++◌, length, get_or, Some, None, Ok, Err, Option, Result, sym, refl, ap, ◌∙◌, subst, inl, inr, append_assoc, arith}
+use Rattle.std.proofs.Common.{◌≡◌, ℕ, zero, suc, ◌+◌, ◌<◌, Bool, true, false, cond, eqb, List, [], ◌∷◌, ◌++◌, length, get_or, Some, None, Ok, Err, Option, sym, refl, ap, ◌∙◌, subst, inl, inr, append_assoc, arith}
 use Rattle.std.proofs.lemmas.List.{append-nil, length_push}
-use Rattle.std.proofs.lemmas.Bool.{eq-eqb, eqb-false, le-ltb, lt-ltb, ltb-false, ltb-true, ne_eqb}
+use Rattle.std.proofs.lemmas.Bool.{eq-eqb, eqb-false, le-ltb, lt-ltb, ne_eqb}
 use Rattle.refusal.specs.Refusals.{refused}
 use Rattle.refusal.specs.declared.Layer.TheVariants.{Book as BookLayer}
-use Rattle.refusal.specs.declared.Reason.TheVariants.{ShortSpace, TooLong}
-use Rattle.refusal.specs.declared.Refusal.{Refusal}
+use Rattle.refusal.specs.declared.Reason.TheVariants.{TooLong}
 use Rattle.format.specs.declared.card.Card.{Card}
 use Rattle.format.specs.Grammar.{Terms, by_rule, by_pairs, Contents, EachAfter, GoodCard, GoodPair, GoodTerms, GoodWithdrawn, WellFormed, on_card, same_pair, said, said_pair}
-use Rattle.format.specs.Rules.{Draft, read_book}
+use Rattle.format.specs.Rules.{read_book}
 use Rattle.format.specs.Theorems.{draft_of, pairs_in, rule_in}
 use Rattle.format.proofs.Exactly.{reads}
-use Rattle.format.proofs.Logic.{clash, err_ok, some_none}
-use Rattle.book.specs.Reading.{answer_of, at_records, untouched}
+use Rattle.format.proofs.Logic.{clash, some_none}
 use Rattle.book.specs.Spaces.{stamp_at}
 use Rattle.summary.specs.Summing.{Sums, count_to, counted_of, pairs_to, sum_to, summary_answer, summary_of, summing, terms_of, terms_said, unread_in}
 use Rattle.closed.specs.declared.books.ClosedBook.{ClosedBook}
@@ -20,7 +18,6 @@ use Rattle.closed.specs.Closes.{Plain, book_in, by_marks, cards_in, graph_of, pl
 use Rattle.closed.specs.Closes.{by_rule as ruled_book}
 use Rattle.closed.specs.Tells.{ReadsClosed, Tells, by_terms, partners_in}
 use Rattle.summary.specs.declared.facts.Terms.TheVariants.{Pairs}
-use Rattle.book.proofs.Answered.{same_err}
 use Rattle.book.proofs.Agrees.{places_apart, places_pair, push_false, push_true, said_swap, stamp_pos}
 use Rattle.summary.proofs.Counts.{count_none, count_one, count_same, sum_one, sum_same}
 use Rattle.book.proofs.Pairs.{SamePlaces, sides}
@@ -152,25 +149,6 @@ counts b w p h = λ i. record { rolls = length (h.cards i); unread = unread_in (
         ∙ count_same _ (λ u. said b.withdrawn (stamp_at b.cards u)) (length b.cards) (λ u k. h.withdrawn u k)
         ∙ all_gone b.cards n b.withdrawn [] w.withdrawn (count_none (λ u. false) (length b.cards) (λ j k. refl))
 
--- a refused book has no summary
-pub none_counted : (bs : List ℕ) (short : Bool) (e : Refusal) → short ≡ false → ReadsClosed bs short (Err e) → (Err e ≡ summary_answer bs) × Sums bs (Err e)
-none_counted bs short e s m = go (ltb 65536 (length bs)) refl
-  where
-    go : (b : Bool) → ltb 65536 (length bs) ≡ b → (Err e ≡ summary_answer bs) × Sums bs (Err e)
-    go true t =
-        let z : e ≡ refused TooLong BookLayer 0 = same_err (m.0 ∙ ap (λ b. answer_of (cond b (untouched (refused TooLong BookLayer 0)) (cond short (untouched (refused ShortSpace BookLayer 0)) (at_records (read_book bs))))) t) in
-        (ap (λ w. Err w) z ∙ sym (ap (λ b. cond b (Err (refused TooLong BookLayer 0)) (summing (read_book bs))) t), inl (ltb-true _ _ t, z))
-    go false t =
-        let l : length bs ≤ 65536 = ltb-false _ _ t in
-        let f = m.1 l s in (
-          at (read_book bs) (m.0 ∙ (λ i. answer_of (cond (t i) (untouched (refused TooLong BookLayer 0)) (cond (s i) (untouched (refused ShortSpace BookLayer 0)) (at_records (read_book bs)))))) ∙ sym (ap (λ b. cond b (Err (refused TooLong BookLayer 0)) (summing (read_book bs))) t),
-          inr (l, f.0, f.1),
-        )
-      where
-        at : (q : Result Draft Refusal) → Err e ≡ answer_of (at_records q) → Err e ≡ summing q
-        at (Ok d) p = err_ok p
-        at (Err w) p = ap (λ w. Err w) (same_err p)
-
 -- an accepted one has that of what its bytes say
 pub all_counted : (bs : List ℕ) (short : Bool) (t : ClosedBook) → ReadsClosed bs short (Ok t) → (Ok (counted_of (plain t)) ≡ summary_answer bs) × Sums bs (Ok (counted_of (plain t)))
 all_counted bs short t m =
@@ -179,7 +157,3 @@ all_counted bs short t m =
       ap (λ s. Ok s) c ∙ sym (ap summing (reads bs m.2.0 says)) ∙ sym (ap (λ b. cond b (Err (refused TooLong BookLayer 0)) (summing (read_book bs))) (le-ltb 65536 (length bs) m.0)),
       (m.0, (m.2.0, says, c)),
     )
-
--- a book that was read has at most 256 cards
-pub few_cards : (bs : List ℕ) (short : Bool) (t : ClosedBook) → ReadsClosed bs short (Ok t) → length (cards_in (plain t)) ≤ 256
-few_cards bs short t m = subst (λ v. length v ≤ 256) (sym m.2.2.cards) m.2.1.well.few

@@ -1,16 +1,12 @@
 -- An order of all places is never refused as a selection.
-use Rattle.std.proofs.Common.{◌≡◌, ℕ, zero, suc, ◌+◌, ◌<◌, true, false, List, [], ◌∷◌, length, get_or, take, drop, None, Option, refl, arith}
+use Rattle.std.proofs.Common.{◌≡◌, ℕ, ◌+◌, ◌<◌, true, false, List, [], ◌∷◌, length, get_or, take, drop, None, refl, arith}
 use Rattle.std.proofs.lemmas.List.{take-append-drop, drop_more}
 use Rattle.std.proofs.lemmas.Bool.{eqb-true, lt-leb}
-use Rattle.refusal.specs.declared.Refusal.{Refusal}
-use Rattle.pairs.specs.Checks.{first_fault, stands}
+use Rattle.pairs.specs.Checks.{stands}
+use Rattle.pairs.proofs.Faults.{all_none}
 use Rattle.pairs.specs.Selections.{entry_fault, selection_fault}
 use Rattle.order.specs.Orders.{times, Permutation}
 use Rattle.order.proofs.Counts.{many_append, in_here, in_there, places_in}
-
-none_all : (fault : ℕ → Option Refusal) (k : ℕ) → ((i : ℕ) → i < k → fault i ≡ None) → first_fault fault k ≡ None
-none_all fault zero f = refl
-none_all fault (suc k) f = cc (none_all fault k (λ i h. f i (omega arith)), f k (omega arith))
 
 stands_times : (A : List ℕ) (w : ℕ) → stands A w ≡ true → 0 < times w A
 stands_times [] w q = cc
@@ -37,4 +33,4 @@ module _ (n : ℕ) (L : List ℕ) (perm : Permutation n L) (i : ℕ) (h : i < le
       cc (lt-leb n w inside)
 
 pub order_selects : (n : ℕ) (L : List ℕ) → Permutation n L → selection_fault n L ≡ None
-order_selects n L perm = none_all (entry_fault n L) (length L) (entry_passes n L perm)
+order_selects n L perm = all_none (entry_fault n L) (length L) (entry_passes n L perm)

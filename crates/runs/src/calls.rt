@@ -9,7 +9,7 @@ use model::{Answer, Call, Exchange};
 use pairs::PairTable;
 use walk::Walk;
 
-// Makes one call and answers it.
+// Makes one call and answers it. The calls are data in the caller's memory, so their kinds are told apart here.
 fn make<T: PairTable>(walk: &mut Walk<T>, exchange: &mut Exchange)
     ensures table { walk.new.table ≡ walk.old.table }
     ensures obeys { let graph = T.PairTable.meaning walk.old.table in

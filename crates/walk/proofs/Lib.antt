@@ -2,4 +2,3 @@ pub mod Roots
 pub mod Found
 pub mod Agree
 pub mod Climbs
-pub mod Whole

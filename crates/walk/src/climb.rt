@@ -20,7 +20,7 @@ fn past(index: u16) -> usize
 
 // What comes next after a set: its first child; without one the search climbs to the parent and goes on with the children
 // above the parent index that it left, and from a root with the heads. The parent index falls with each climb, so there are
-// fewer climbs than places.
+// fewer climbs than places: the loop never runs out, and the `None` behind it is never reached.
 fn next_after<T: PairTable>(table: &T, set: &Standing) -> Option<Standing>
     ensures kept { Kept result }
     ensures next { MaximalClique (T.PairTable.meaning table.now) (members_of set.now) → NextAfter (T.PairTable.meaning table.now) (path (T.PairTable.meaning table.now) (members_of set.now)) (found_set result) }

@@ -16,7 +16,8 @@ use completion::{
 };
 use pairs::PairTable;
 
-// A set that a search has reached in a table, and what is worked out of it once: the barriers of all places.
+// A set that a search has reached in a table, and what is worked out of it once: the barriers of all places. There are as
+// many barriers as a table may have places, so a place that is asked about has to be below 256.
 #[derive(Drop)]
 pub(crate) struct Reached<'a, T: PairTable> {
     table: &'a T,

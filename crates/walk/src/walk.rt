@@ -14,11 +14,13 @@ use completion::{Standing, maximal_fault};
 use pairs::PairTable;
 use refusal::{Layer, Reason, Refusal};
 
-// The set given, as it is kept, or why it is refused.
+// The set given, as it is kept, or why it is refused. The public call tells a fault or none, so it is no `?`.
 fn checked<T: PairTable>(table: &T, set: &[u16]) -> Result<Standing, Refusal>
     ensures { Checked (T.PairTable.meaning table.now) set.now result }
 {
-    maximal_fault(table, set).map_or(Ok(()), Err)?;
+    if let Some(refusal) = maximal_fault(table, set) {
+        return Err(refusal);
+    }
     Ok(Standing::of(set))
 }
 
@@ -28,8 +30,8 @@ fn checked<T: PairTable>(table: &T, set: &[u16]) -> Result<Standing, Refusal>
 pub struct Walk<T: PairTable> {
     table: T,
     standing: Standing,
-    ghost clean: { Clean standing } by { clean_single standing },
-    ghost sound: { MayStand (T.PairTable.meaning table) (members_of standing) } by { may_stand_single (T.PairTable.meaning table) (members_of standing) },
+    pub ghost clean: { Clean standing } by { clean_single standing },
+    pub ghost sound: { MayStand (T.PairTable.meaning table) (members_of standing) } by { may_stand_single (T.PairTable.meaning table) (members_of standing) },
 }
 
 impl<T: PairTable> Walk<T> {

@@ -3,7 +3,6 @@ use Rattle.std.proofs.lemmas.List.{take_all}
 use Rattle.cliques.specs.Paths.{MayStand}
 use Rattle.completion.specs.Checks.{maximal_fault}
 use Rattle.completion.specs.Standings.{standing_of}
-use Rattle.completion.proofs.Faults.{passes}
 use Rattle.completion.proofs.Sound.{few, maximal_of}
 use Rattle.completion.proofs.Standings.{back}
 use Rattle.model.proofs.Remainders.{may_stand}
@@ -14,6 +13,6 @@ returns g c =
     let m = g.T.PairTable.meaning c.args.table.now in
     let law = g.T.PairTable.lawful c.args.table.now in
     let X = c.args.set.now in
-    let none : maximal_fault m X ≡ None = sym (passes c.maximal_fault.result _ c.maximal_fault.ensures _ _ c.in_ok-map_or.ensures (λ e k. search rules)) in
+    let none : maximal_fault m X ≡ None = search rules in
     let q : c.of.result ≡ standing_of X = c.of.ensures ∙ ap standing_of (take_all 256 X (few m law X none)) in
     (none, q, subst (λ (Y : List ℕ). MayStand m Y) (sym (back c.of.result X q)) (may_stand m law X (maximal_of m law X none)))

@@ -1,4 +1,4 @@
-use Rattle.walk.proofs.Whole.{whole}
+use Rattle.walk.specs.Whole.{whole}
 use Rattle.walk.proofs.walk.Walk.standing.Goals as goal
 
 pub returns-clause-whole : goal.returns-clause-whole

@@ -5,7 +5,9 @@ mod books;
 mod changes;
 mod orders;
 mod sets;
+mod sheets;
 mod tables;
+mod walks;
 
 use pairs::PartnerLists;
 use refusal::Refusal;
@@ -40,7 +42,8 @@ fn run(rt: &HostRuntime) -> anyhow::Result<()> {
     changes::run(rt)?;
     tables::run(rt)?;
     sets::run(rt)?;
-    orders::run(rt)
+    orders::run(rt)?;
+    walks::run(rt)
 }
 
 fn main(rt: HostRuntime) -> anyhow::Result<()> {

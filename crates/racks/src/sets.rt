@@ -4,6 +4,13 @@ use crate::{print_members, print_refusal, with_lists};
 use completion::{complete, parent, parent_index};
 use pairs::PairTable;
 
+// The first `count` members of a space, at the end of a line.
+fn print_front(rt: &HostRuntime, space: &mut Vec<u16>, count: usize) -> anyhow::Result<()> {
+    space.truncate(count);
+    print_members(rt, space)?;
+    Ok(println!(rt; "")?)
+}
+
 // The completion of a set, in a space of the length given.
 fn print_completion<T: PairTable>(
     rt: &HostRuntime,
@@ -18,9 +25,7 @@ fn print_completion<T: PairTable>(
     match complete(table, set, &mut out) {
         Ok(count) => {
             print!(rt; "{count} members")?;
-            out.truncate(count);
-            print_members(rt, &out)?;
-            Ok(println!(rt; "")?)
+            print_front(rt, &mut out, count)
         }
         Err(refusal) => print_refusal(rt, refusal),
     }
@@ -44,9 +49,7 @@ fn print_parent<T: PairTable>(
     match parent(table, set, &mut out) {
         Ok(Some(count)) => {
             print!(rt; "parent")?;
-            out.truncate(count);
-            print_members(rt, &out)?;
-            Ok(println!(rt; "")?)
+            print_front(rt, &mut out, count)
         }
         Ok(None) => Ok(println!(rt; "a root")?),
         Err(refusal) => print_refusal(rt, refusal),

@@ -34,6 +34,7 @@ fn print_table<T: Stamped>(rt: &HostRuntime, table: &T) -> anyhow::Result<()> {
 fn print_book(rt: &HostRuntime, name: &str) -> anyhow::Result<()> {
     println!(rt; "-- table of {name}")?;
     let bytes = book_bytes(rt, name)?;
+    // No struct holds the three spaces: a table that borrows from the fields of one gets no proof.
     let mut cards = [Card::NONE; 256];
     let mut marks = [0; 4080];
     let mut index = [IndexRecord::NONE; 256];

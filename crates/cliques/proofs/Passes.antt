@@ -1,12 +1,12 @@
 -- The completion appended in rising order.
-use Rattle.std.proofs.Common.{◌≡◌, ℕ, zero, suc, ◌≤◌, Bool, true, false, cond, ◌&&◌, ◌||◌, T, List, [], ◌∷◌, ◌++◌, length, sym, ◌∙◌, subst, inl, inr, arith, length-append}
+use Rattle.std.proofs.Common.{◌≡◌, ℕ, zero, suc, ◌<◌, ◌≤◌, Bool, true, false, cond, ◌&&◌, ◌||◌, T, List, [], ◌∷◌, ◌++◌, length, sym, ◌∙◌, subst, inl, inr, arith, length-append}
 use Rattle.cliques.specs.Graph.{Graph, Lawful}
-use Rattle.cliques.specs.Sets.{has, In, below, partner_of_all, Clique}
+use Rattle.cliques.specs.Sets.{has, In, below, Rising, partner_of_all, Clique}
 use Rattle.cliques.specs.Completion.{completion}
 use Rattle.cliques.specs.Shortcuts.{append_pass}
 use Rattle.cliques.proofs.Tests.{or_l, or_r, and_mk, dec}
-use Rattle.cliques.proofs.Members.{partner_at, partner_all, below_in, below_out}
-use Rattle.cliques.proofs.Rising.{below_more, below_same, below_none, below_all}
+use Rattle.cliques.proofs.Members.{snoc_out, partner_at, partner_all, below_in, below_out}
+use Rattle.cliques.proofs.Rising.{snoc_rising, below_more, below_same, below_none, below_all}
 use Rattle.cliques.proofs.Completions.{IsCompletion, completion_is, completion_rising, completion_clique}
 
 module _ (g : Graph) (law : Lawful g) (X : List ℕ) (f : Clique g X) where
@@ -60,3 +60,24 @@ pass_by false k G h = omega arith
 pub pass_long : (g : Graph) (k : ℕ) (X : List ℕ) → length (append_pass g k X) ≤ k
 pass_long g zero X = omega arith
 pass_long g (suc k) X = grind (arith, pass_by, pass_long g k)
+
+-- whatever the list is, it rises, and holds places below k
+pass_in : (b : Bool) (k : ℕ) (G : List ℕ) → ((w : ℕ) → In w G → w < k) → (w : ℕ) → In w (cond b (G ++ (k ∷ [])) G) → w < suc k
+pass_in true k G f w m = elim (snoc_out G k w m) [ inl a ↦ let h = f w a in omega arith | inr q ↦ omega arith ]
+pass_in false k G f w m = let h = f w m in omega arith
+
+pub pass_within : (g : Graph) (k : ℕ) (X : List ℕ) (w : ℕ) → In w (append_pass g k X) → w < k
+pass_within g zero X w m = absurd m
+pass_within g (suc k) X w m =
+    let G = append_pass g k X in
+    pass_in (has k X || (partner_of_all g k X && partner_of_all g k G)) k G (pass_within g k X) w m
+
+pass_rise : (b : Bool) (k : ℕ) (G : List ℕ) → Rising G → ((w : ℕ) → In w G → w < k) → Rising (cond b (G ++ (k ∷ [])) G)
+pass_rise true k G r f = snoc_rising G k r f
+pass_rise false k G r f = r
+
+pub pass_rising : (g : Graph) (k : ℕ) (X : List ℕ) → Rising (append_pass g k X)
+pass_rising g zero X = tt
+pass_rising g (suc k) X =
+    let G = append_pass g k X in
+    pass_rise (has k X || (partner_of_all g k X && partner_of_all g k G)) k G (pass_rising g k X) (pass_within g k X)

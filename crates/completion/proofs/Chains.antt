@@ -1,5 +1,5 @@
 -- What chains of iterators give, in the words of the theory.
-use Rattle.std.proofs.Common.{◌≡◌, ℕ, zero, suc, ◌+◌, ◌-◌, Bool, true, false, cond, not, ◌&&◌, ◌||◌, eqb, ltb, List, [], ◌∷◌, ◌++◌, get_or, inl, inr, refl, sym, ap, ◌∙◌, subst, Some, None, Option, Ok, Err, Result, ◌≢◌, ◌<◌, ◌≤◌, arith}
+use Rattle.std.proofs.Common.{◌≡◌, ℕ, zero, suc, ◌+◌, ◌-◌, Bool, true, false, cond, not, ◌&&◌, ◌||◌, ltb, List, [], ◌∷◌, ◌++◌, refl, sym, ap, ◌∙◌, subst, Some, None, Option, ◌<◌, ◌≤◌, arith}
 use Rattle.std.specs.Iterator.{ChecksAny}
 use Rattle.std.proofs.lemmas.Iterator.{YieldsList-from_range}
 use Rattle.std.proofs.lemmas.Iterator.Search.{any_from_yields_List}
@@ -8,35 +8,13 @@ use Rattle.std.specs.declared.ops.Range.{Range}
 use Rattle.std.proofs.iter.Yields.{nat_range_steps}
 use Rattle.std.proofs.iter.runs.Sources.{range_runs}
 use Rattle.std.proofs.lemmas.Iterator.Adapters.{option_map_id}
-use Rattle.std.specs.Result.{MatchResult}
-use Rattle.std.proofs.lemmas.Bool.{cases_eq, eq-eqb, ne_eqb, or_from}
 use denote.Param.Members.{Mut, Called}
 use Rattle.std.specs.Bool.{then_some, IsTrue}
 use Rattle.std.specs.Option.{unwrap_or, MatchOption, option_map, IfSome, IsSomeAnd}
 use Rattle.cliques.specs.Graph.{Graph}
 use Rattle.cliques.specs.Shortcuts.{barrier}
 use Rattle.std.specs.List.{list_any, list_all, find, range_with_len}
-use Rattle.cliques.specs.Sets.{every, first_of, has, places}
-
-flipped : (a b : ℕ) → eqb a b ≡ eqb b a
-flipped a b =
-    elim (cases_eq a b) [ inl e ↦ eq-eqb a b e ∙ sym (eq-eqb b a (sym e)) | inr ne ↦ ne_eqb a b ne ∙ sym (ne_eqb b a (λ e. ne (sym e))) ]
-
-any_has : (w : ℕ) (L : List ℕ) → list_any (λ x. eqb x w) L ≡ has w L
-any_has w [] = refl
-any_has w (x ∷ xs) = ap (λ b. b || list_any (λ y. eqb y w) xs) (flipped x w) ∙ ap (λ b. eqb w x || b) (any_has w xs)
-
-has_none : (w n : ℕ) (L : List ℕ) → n ≤ w → ((i : ℕ) → get_or L i 0 < n) → has w L ≡ false
-has_none w n [] h f = refl
-has_none w n (x ∷ xs) h f =
-    let ne : w ≢ x = let z : x < n = f 0 in omega arith in
-    or_from (eqb w x) (has w xs) (ne_eqb w x ne) (has_none w n xs h (λ i. f (suc i)))
-
--- a number looked for among numbers below n, if it is one of those
-pub member_is : {E : Type 0} (n : ℕ) (o : Result ℕ E) (b : Bool) (w : ℕ) (L : List ℕ) (P : ℕ → Type 0) → MatchResult o (λ x. x ≡ w) (λ _. n ≤ w)
-    → MatchResult o P (λ _. b ≡ false) → ((i : ℕ) → get_or L i 0 < n) → ((x : ℕ) → P x → b ≡ list_any (λ y. eqb y x) L) → b ≡ has w L
-member_is n (Ok x) b w L P e m few same = same x m ∙ (ap (λ (z : ℕ). list_any (λ y. eqb y z) L) e ∙ any_has w L)
-member_is n (Err z) b w L P e m few same = m ∙ sym (has_none w n L e few)
+use Rattle.cliques.specs.Sets.{every, first_of, places}
 
 pub all_every : (p : ℕ → Bool) (L : List ℕ) → list_all p L ≡ every p L
 all_every p [] = refl

@@ -14,7 +14,7 @@ use pairs::PairTable;
 pub fn is_member(w: usize, set: &[u16]) -> bool
     ensures { result ≡ has w set.now }
 {
-    u16::try_from(w).is_ok_and(|place| set.contains(&place))
+    set.iter().any(|&x| w == x as usize)
 }
 
 /// The first entry, which is the smallest member of a rising list; 0 where there is none.

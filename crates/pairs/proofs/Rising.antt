@@ -1,6 +1,6 @@
 -- A list rises where each entry is below the next, and all are below the size.
-use Rattle.std.proofs.Common.{◌≡◌, ℕ, zero, suc, ◌+◌, ◌≤◌, ◌<◌, Bool, true, false, ltb, List, [], ◌∷◌, length, get_or, refl, sym, subst, arith}
-use Rattle.std.proofs.lemmas.Bool.{ltb-true}
+use Rattle.std.proofs.Common.{◌≡◌, ℕ, zero, suc, ◌+◌, ◌-◌, ◌≤◌, ◌<◌, Bool, true, false, ltb, List, [], ◌∷◌, length, get_or, refl, sym, subst, inl, inr, arith}
+use Rattle.std.proofs.lemmas.Bool.{ltb-true, cases_Bool}
 use Rattle.std.specs.List.{AllAdjacentBelow}
 use Rattle.pairs.specs.Lists.{rising}
 
@@ -51,3 +51,18 @@ module _ (size : ℕ) (xs : List ℕ) where
 
   pub unsorted : (k : ℕ) → k + 1 < length xs → ((d : ℕ) → false ≡ ltb (get_or xs k d) (get_or xs (k + 1) d)) → false ≡ rising size 0 xs
   unsorted k l h = let n = rises size 0 xs in grind (arith, n, h 0)
+
+-- a list that rises has no more entries than there are places for them
+rising_few : (size least : ℕ) (xs : List ℕ) → rising size least xs ≡ true → length xs ≤ size - least
+rising_few size least [] h = omega arith
+rising_few size least (x ∷ xs) h =
+    let low = rises_first size least (x ∷ xs) h (omega arith) in
+    let high = rises_below size least (x ∷ xs) h 0 (omega arith) in
+    let rest = rising_few size (x + 1) xs (rises_rest size least x xs h) in
+    omega arith
+
+pub crowded : (size : ℕ) (xs : List ℕ) → size < length xs → false ≡ rising size 0 xs
+crowded size xs l = elim (cases_Bool (rising size 0 xs)) [
+  | inl h ↦ (let few = rising_few size 0 xs h in absurd (omega arith))
+  | inr h ↦ sym h
+]

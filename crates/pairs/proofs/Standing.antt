@@ -1,7 +1,8 @@
 -- Whether a place stands in a list.
-use Rattle.std.proofs.Common.{◌≡◌, ℕ, ◌<◌, true, false, eqb, List, [], ◌∷◌, length, get_or, refl, arith}
+use Rattle.std.proofs.Common.{◌≡◌, ℕ, ◌<◌, true, false, ◌||◌, eqb, List, [], ◌∷◌, length, get_or, refl, ap, arith}
 use Rattle.std.proofs.lemmas.List.Recursion.{or_at}
 use Rattle.std.proofs.lemmas.Bool.{both_ways, eq-eqb}
+use Rattle.std.specs.List.{list_any}
 use Rattle.pairs.specs.Checks.{stands}
 
 -- what does not stand in the list is none of its entries
@@ -12,3 +13,8 @@ stands_none xs place j none lt e = both_ways _ none (or_at (λ ys. stands ys pla
 pub at_standing : (Entry : ℕ → Type 0) (Whole : List ℕ → Type 0) → ((x : ℕ) (xs : List ℕ) → Whole (x ∷ xs) → Entry x × Whole xs) → (xs : List ℕ) (v : ℕ) → Whole xs → stands xs v ≡ true → Entry v
 at_standing Entry Whole split [] v whole has = let z : ◌≡◌ {A = ℕ} 0 1 = cc in absurd (omega arith)
 at_standing Entry Whole split (x ∷ xs) v whole has = grind (arith, at_standing Entry Whole split xs)
+
+-- what the library's search through a list tells
+pub any_stands : (w : ℕ) (L : List ℕ) → list_any (λ x. eqb x w) L ≡ stands L w
+any_stands w [] = refl
+any_stands w (x ∷ xs) = ap (λ b. eqb x w || b) (any_stands w xs)

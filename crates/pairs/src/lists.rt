@@ -18,10 +18,13 @@ pub struct PartnerLists<'a> {
     entries: &'a [u16],
 }
 
-// Whether the entries rise, and all are below the size.
+// Whether the entries rise, and all are below the size. A list with more entries than places does not, and is not read.
 fn is_rising(list: &[u16], size: usize) -> bool
     ensures { result ≡ rising size 0 list.now }
 {
+    if list.len() > size {
+        return false;
+    }
     list.is_sorted_by(|a, b| a < b) && list.iter().all(|&place| (place as usize) < size)
 }
 

@@ -16,12 +16,11 @@ fn make<T: PairTable>(walk: &mut Walk<T>, exchange: &mut Exchange)
         let pin = members_of walk.old.standing in
         Obeys graph pin (asked exchange.old) (told exchange.new) (members_of walk.new.standing) }
 {
-    let answer = match exchange.call {
-        Call::Step => walk.step().map(Answer::Count),
-        Call::Read => walk.read(&mut exchange.space).map(Answer::Count),
-        Call::Resume => walk.resume(&exchange.space).map(|()| Answer::Resumed),
+    exchange.answer = match exchange.call {
+        Call::Step => Some(walk.step().map(Answer::Count)),
+        Call::Read => Some(walk.read(&mut exchange.space).map(Answer::Count)),
+        Call::Resume => Some(walk.resume(&exchange.space).map(|()| Answer::Resumed)),
     };
-    exchange.answer = Some(answer);
 }
 
 // Makes the calls in order.

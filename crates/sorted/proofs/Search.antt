@@ -2,16 +2,14 @@
 use Rattle.std.proofs.Common.{◌≡◌, ℕ, zero, suc, ◌<◌, ◌≤◌, Bool, true, false, ◌&&◌, List, [], ◌∷◌, length, get_or, Result, Ok, Err, Some, None, refl, sym, ap, ◌∙◌, inl, inr, arith, cond, ltb, le-ltb, lt-ltb, ltb-true, ltb-false}
 use Rattle.std.proofs.lemmas.Bool.{both_ways, cases_Bool, cases_eq, and_parts}
 use Rattle.std.proofs.lemmas.List.Sums.{prefix_len_is, position_or_len_is}
-use Rattle.std.specs.Cmp.{IsTotalOrder}
 use Rattle.std.specs.declared.cmp.Ordering.{Ordering}
 use Rattle.std.specs.declared.cmp.Ordering.TheVariants.{Less, Equal, Greater}
 use Rattle.std.specs.List.{position}
 use Rattle.std.specs.List.Sorted.{IsPartitionPoint, IsPartitionedBy, IsBinarySearchResult, IsSearchInRange, IsNonDecreasingBy}
-use Rattle.std.specs.Ordering.{is_le, ordering_index, ordering_reverse}
+use Rattle.std.specs.Ordering.{is_eq, ordering_index}
 use Rattle.std.specs.Result.{result_ok}
-use Rattle.sorted.specs.Keyed.{front, at_most, tie, of_key, up_to_key, Rising, Before}
+use Rattle.sorted.specs.Keyed.{front, comparison, tie, of_key, up_to_key, Rising, Before}
 use Rattle.sorted.proofs.Front.{front_is}
-use Rattle.sorted.proofs.Orders.{at_most_trans}
 
 module _ {X K : Type 0} (upto : K → K → Bool) (key : X → K) where
   before_at : (k : K) (xs : List X) (j : ℕ) (d : X) → j < length xs → Before upto key k xs → (upto k (key (get_or xs j d)) ≡ true) × (upto (key (get_or xs j d)) k ≡ false)
@@ -30,63 +28,64 @@ pub front_at : {X : Type 0} (p : X → Bool) (xs : List X) (i : ℕ) → i ≤ l
 front_at p [] i l h = omega arith
 front_at p (x ∷ xs) i l h = sym (front_is p (x ∷ xs) ∙ prefix_len_is p (x ∷ xs) i x l (λ k m. h.0 k x (omega arith) m) (λ m. h.1 i x (omega arith) m))
 
--- the answers rise where both comparisons say that they do
-answers_rise : (r s : Ordering) → (is_le s ≡ true → is_le r ≡ true) → (is_le (ordering_reverse r) ≡ true → is_le (ordering_reverse s) ≡ true) → ordering_index r ≤ ordering_index s
-answers_rise Less Less f g = omega arith
-answers_rise Less Equal f g = omega arith
-answers_rise Less Greater f g = omega arith
-answers_rise Equal Less f g = absurd (both_ways _ refl (g refl))
-answers_rise Equal Equal f g = omega arith
-answers_rise Equal Greater f g = omega arith
-answers_rise Greater Less f g = absurd (both_ways _ refl (f refl))
-answers_rise Greater Equal f g = absurd (both_ways _ refl (f refl))
-answers_rise Greater Greater f g = omega arith
+-- a comparison, by whether each of the two comes before the other or ties with it
+abbrev answer : Bool → Bool → Ordering
+answer p q = cond p (cond q Equal Less) Greater
 
-module _ {X K : Type 0} {cmp : K → K → Ordering} (o : IsTotalOrder cmp) (key : X → K) (k : K) where
+-- the answers rise where both tests say that they do
+answers_rise : (p q s t : Bool) → (s ≡ true → p ≡ true) → (q ≡ true → t ≡ true) → ordering_index (answer p q) ≤ ordering_index (answer s t)
+answers_rise true true true true f g = omega arith
+answers_rise true true true false f g = absurd (both_ways _ refl (g refl))
+answers_rise true true false t f g = omega arith
+answers_rise true false true true f g = omega arith
+answers_rise true false true false f g = omega arith
+answers_rise true false false t f g = omega arith
+answers_rise false q true t f g = absurd (both_ways _ refl (f refl))
+answers_rise false q false t f g = omega arith
+
+both_equal : (p q : Bool) → (p && q) ≡ is_eq (answer p q)
+both_equal true true = refl
+both_equal true false = refl
+both_equal false q = refl
+
+module _ {X K : Type 0} (upto : K → K → Bool) (trans : (x y z : K) → upto x y ≡ true → upto y z ≡ true → upto x z ≡ true) (key : X → K) (k : K) where
   -- the records up to the key stand before the others
-  pub parted : (xs : List X) → Rising (at_most cmp) key xs → IsPartitionedBy (up_to_key (at_most cmp) key k) xs
+  pub parted : (xs : List X) → Rising upto key xs → IsPartitionedBy (up_to_key upto key k) xs
   parted xs h i j d l m e = elim (cases_eq i j) [
-    | inl same ↦ ap (λ n. at_most cmp (key (get_or xs n d)) k) same ∙ e
-    | inr apart ↦ at_most_trans o _ _ _ (rising_at (at_most cmp) key xs i j d (omega arith) m h).0 e
+    | inl same ↦ ap (λ n. upto (key (get_or xs n d)) k) same ∙ e
+    | inr apart ↦ trans _ _ _ (rising_at upto key xs i j d (omega arith) m h).0 e
   ]
 
-  rises : (xs : List X) → Rising (at_most cmp) key xs → IsNonDecreasingBy (λ y. ordering_index (cmp (key y) k)) xs
+  rises : (xs : List X) → Rising upto key xs → IsNonDecreasingBy (λ y. ordering_index (comparison upto (key y) k)) xs
   rises xs h i j d l m = elim (cases_eq i j) [
-    | inl same ↦ omega (arith, ap (λ n. ordering_index (cmp (key (get_or xs n d)) k)) same)
+    | inl same ↦ omega (arith, ap (λ n. ordering_index (comparison upto (key (get_or xs n d)) k)) same)
     | inr apart ↦
         let a = key (get_or xs i d) in
         let b = key (get_or xs j d) in
-        let up = (rising_at (at_most cmp) key xs i j d (omega arith) m h).0 in
-        answers_rise (cmp a k) (cmp b k) (λ e. at_most_trans o a b k up e) (λ e. ap is_le (sym (o.antisymm k b)) ∙ at_most_trans o k a b (ap is_le (o.antisymm k a) ∙ e) up)
+        let up = (rising_at upto key xs i j d (omega arith) m h).0 in
+        answers_rise (upto a k) (upto k a) (upto b k) (upto k b) (λ e. trans a b k up e) (λ e. trans k a b e up)
   ]
 
   -- whether a key ties with k, by the answer of the comparison
-  tie_by : (a : K) (r : Ordering) → cmp a k ≡ r → tie (at_most cmp) a k ≡ (is_le r && is_le (ordering_reverse r))
-  tie_by a r e = let f = o.antisymm k a ∙ ap ordering_reverse e in λ i. is_le (e i) && is_le (f i)
-
-  pub tied : (a : K) → tie (at_most cmp) a k ≡ true → cmp a k ≡ Equal
-  tied a e = go (cmp a k) refl
-    where
-      go : (r : Ordering) → cmp a k ≡ r → cmp a k ≡ Equal
-      go Less q = absurd (both_ways _ (tie_by a Less q) e)
-      go Equal q = q
-      go Greater q = absurd (both_ways _ (tie_by a Greater q) e)
+  tie_by : (a : K) (r : Ordering) → comparison upto a k ≡ r → tie upto a k ≡ is_eq r
+  tie_by a r e = both_equal (upto a k) (upto k a) ∙ ap is_eq e
 
   abbrev test : X → Bool
-  test = of_key (at_most cmp) key k
+  test = of_key upto key k
 
-  earlier : (xs : List X) (i : ℕ) (d : X) → i < length xs → Rising (at_most cmp) key xs → cmp (key (get_or xs i d)) k ≡ Equal → (j : ℕ) → j < i → test (get_or xs j d) ≡ false
+  earlier : (xs : List X) (i : ℕ) (d : X) → i < length xs → Rising upto key xs → comparison upto (key (get_or xs i d)) k ≡ Equal → (j : ℕ) → j < i → test (get_or xs j d) ≡ false
   earlier xs i d l h e j m = elim (cases_Bool (test (get_or xs j d))) [
     | inl q ↦
         let b = key (get_or xs j d) in
         let a = key (get_or xs i d) in
-        let below = at_most_trans o a k b (ap is_le e) (and_parts (at_most cmp b k) (at_most cmp k b) q).1 in
-        absurd (both_ways _ (rising_at (at_most cmp) key xs j i d m l h).1 below)
+        let tied = and_parts (upto a k) (upto k a) (tie_by a Equal e) in
+        let below = trans a k b tied.0 (and_parts (upto b k) (upto k b) q).1 in
+        absurd (both_ways _ (rising_at upto key xs j i d m l h).1 below)
     | inr q ↦ q
   ]
 
   -- the search by halves finds the place that a search from the front would
-  pub found : (xs : List X) (r : Result ℕ ℕ) → Rising (at_most cmp) key xs → IsSearchInRange r (length xs) → IsBinarySearchResult (λ y. cmp (key y) k) xs r → result_ok r ≡ position test xs
+  pub found : (xs : List X) (r : Result ℕ ℕ) → Rising upto key xs → IsSearchInRange r (length xs) → IsBinarySearchResult (λ y. comparison upto (key y) k) xs r → result_ok r ≡ position test xs
   found [] (Ok i) h l s = absurd (omega arith)
   found [] (Err i) h l s = refl
   found (x ∷ xs) (Ok i) h l s =

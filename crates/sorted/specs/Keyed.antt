@@ -1,7 +1,7 @@
 -- Lists of records under an order of keys: upto a b says that a comes before b or ties with it.
 use Rattle.std.specs.Prelude.{◌≡◌, ℕ, suc, ◌-◌, Bool, true, false, cond, ◌&&◌, List, [], ◌∷◌, Some, None, Ok, Err, Option, Result}
 use Rattle.std.specs.declared.cmp.Ordering.{Ordering}
-use Rattle.std.specs.Ordering.{is_le}
+use Rattle.std.specs.declared.cmp.Ordering.TheVariants.{Less, Equal, Greater}
 use Rattle.refusal.specs.declared.Reason.TheVariants.{Repeated, Full}
 use Rattle.refusal.specs.declared.Layer.TheVariants.{Shelf}
 use Rattle.refusal.specs.declared.Refusal.{Refusal}
@@ -27,9 +27,9 @@ abbrev pub without : {X : Type 0} → (X → Bool) → List X → List X
 without p [] = []
 without p (x ∷ xs) = cond (p x) xs (x ∷ without p xs)
 
--- the order of a comparison: whether a comes before b or ties with it
-abbrev pub at_most : {K : Type 0} → (K → K → Ordering) → K → K → Bool
-at_most cmp a b = is_le (cmp a b)
+-- how a compares with b
+abbrev pub comparison : {K : Type 0} → (K → K → Bool) → K → K → Ordering
+comparison upto a b = cond (upto a b) (cond (upto b a) Equal Less) Greater
 
 -- two keys tie when each comes before the other or ties with it
 abbrev pub tie : {K : Type 0} → (K → K → Bool) → K → K → Bool

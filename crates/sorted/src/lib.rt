@@ -4,6 +4,7 @@
 mod keys;
 mod lists;
 mod slice;
+mod uses;
 
-pub use keys::{Keyed, TotalOrder};
+pub use keys::{Keyed, Order, TotalOrder};
 pub use slice::SortedSlice;

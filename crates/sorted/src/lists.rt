@@ -2,29 +2,43 @@
 //! they ask again what the type of a sorted slice keeps.
 
 ghost use Rattle.std.specs.Prelude.{◌≡◌, ◌+◌, ◌-◌, ◌<◌, ◌≤◌, true, false, length, take, drop, is_some, IfSome, is_ok, Some, nat_lt, slice_get};
-ghost use Rattle.sorted.specs.Keyed.{Rising, at_most, front, leading, first_of, without, up_to_key, of_key, inserted, left, room_answer};
+ghost use Rattle.sorted.specs.Keyed.{Rising, comparison, front, leading, first_of, without, up_to_key, of_key, inserted, left, room_answer};
 ghost use Rattle.std.specs.List.{insert as opened, remove, position};
 
-use super::keys::{Keyed, TotalOrder};
+use super::keys::{Keyed, Order, TotalOrder};
 use refusal::{Layer, Reason, Refusal};
+use std::cmp::Ordering;
+
+// How a key compares with another, as the library's search by halves asks.
+fn compare<K: Order>(a: &K, b: &K) -> Ordering
+    ensures { result ≡ comparison K.Order.upto a.now b.now }
+{
+    if !a.at_most(b) {
+        Ordering::Greater
+    } else if b.at_most(a) {
+        Ordering::Equal
+    } else {
+        Ordering::Less
+    }
+}
 
 // The place after the leading records whose keys come before the key or tie with it.
 fn place_after<T: Keyed>(records: &[T], key: T::Key) -> usize
-    requires { Rising (at_most T.Key.cmp) T.keyed records.now }
-    ensures { result ≡ front (up_to_key (at_most T.Key.cmp) T.keyed key) records.now }
+    requires { Rising T.Key.Order.upto T.Keyed.keyed records.now }
+    ensures { result ≡ front (up_to_key T.Key.Order.upto T.Keyed.keyed key) records.now }
 {
-    records.partition_point(|record| record.key() <= key)
+    records.partition_point(|record| record.key().at_most(&key))
 }
 
 // The place of the record that has the key.
 fn place_of<T: Keyed>(records: &[T], key: T::Key) -> Option<usize>
 where
     T::Key: TotalOrder,
-    requires { Rising (at_most T.Key.cmp) T.keyed records.now }
-    ensures { result ≡ position (of_key (at_most T.Key.cmp) T.keyed key) records.now }
+    requires { Rising T.Key.Order.upto T.Keyed.keyed records.now }
+    ensures { result ≡ position (of_key T.Key.Order.upto T.Keyed.keyed key) records.now }
 {
     records
-        .binary_search_by_key(&key, |record| record.key())
+        .binary_search_by(|record| compare(&record.key(), &key))
         .ok()
 }
 
@@ -52,9 +66,9 @@ fn remove_at<T: Copy>(records: &mut [T], count: usize, at: usize) -> T
 
 // Inserts the item after the records whose keys come before its key or tie with it; refuses a full slice.
 pub(crate) fn insert_in<T: Keyed>(records: &mut [T], count: usize, item: T) -> Result<(), Refusal>
-    requires { Rising (at_most T.Key.cmp) T.keyed (take count records.old) }
+    requires { Rising T.Key.Order.upto T.Keyed.keyed (take count records.old) }
     ensures answer { result ≡ room_answer (nat_lt count (length records.old)) }
-    ensures held { is_ok result ≡ true → take (count + 1) records.new ≡ inserted (at_most T.Key.cmp) T.keyed item (take count records.old) }
+    ensures held { is_ok result ≡ true → take (count + 1) records.new ≡ inserted T.Key.Order.upto T.Keyed.keyed item (take count records.old) }
     ensures kept { is_ok result ≡ false → records.new ≡ records.old }
 {
     if count >= records.len() {
@@ -69,9 +83,9 @@ pub(crate) fn insert_in<T: Keyed>(records: &mut [T], count: usize, item: T) -> R
 pub(crate) fn find_in<T: Keyed>(records: &[T], key: T::Key) -> Option<T>
 where
     T::Key: TotalOrder,
-    requires { Rising (at_most T.Key.cmp) T.keyed records.now }
-    ensures answer { result ≡ first_of (of_key (at_most T.Key.cmp) T.keyed key) records.now }
-    ensures key { IfSome result (λ y. T.keyed y ≡ key) }
+    requires { Rising T.Key.Order.upto T.Keyed.keyed records.now }
+    ensures answer { result ≡ first_of (of_key T.Key.Order.upto T.Keyed.keyed key) records.now }
+    ensures key { IfSome result (λ y. T.Keyed.keyed y ≡ key) }
 {
     let at = place_of(records, key)?;
     Some(records[at])
@@ -95,9 +109,9 @@ pub(crate) fn remove_in<T: Keyed>(records: &mut [T], count: usize, key: T::Key) 
 where
     T::Key: TotalOrder,
     requires within { count ≤ length records.old }
-    requires rising { Rising (at_most T.Key.cmp) T.keyed (take count records.old) }
-    ensures answer { result ≡ first_of (of_key (at_most T.Key.cmp) T.keyed key) (take count records.old) }
-    ensures held { take (left result count) records.new ≡ without (of_key (at_most T.Key.cmp) T.keyed key) (take count records.old) }
+    requires rising { Rising T.Key.Order.upto T.Keyed.keyed (take count records.old) }
+    ensures answer { result ≡ first_of (of_key T.Key.Order.upto T.Keyed.keyed key) (take count records.old) }
+    ensures held { take (left result count) records.new ≡ without (of_key T.Key.Order.upto T.Keyed.keyed key) (take count records.old) }
     ensures kept { is_some result ≡ false → records.new ≡ records.old }
 {
     let at = place_of(&records[..count], key)?;

@@ -2,7 +2,7 @@
 
 ghost use Rattle.std.specs.Prelude.{◌≡◌, ◌+◌, ◌-◌, ◌≤◌, false, [], length, take, drop, IfSome, is_ok, if◌then◌else◌};
 ghost use Rattle.refusal.specs.Refusals.{refused};
-ghost use Rattle.sorted.specs.Keyed.{Rising, at_most, leading, first_of, without, of_key, inserted, insert_answer};
+ghost use Rattle.sorted.specs.Keyed.{Rising, leading, first_of, without, of_key, inserted, insert_answer};
 ghost use Rattle.sorted.specs.Single.{rising_single};
 ghost use Rattle.std.specs.Option.{ok_or};
 
@@ -17,7 +17,7 @@ pub struct SortedSlice<'a, T: Keyed> {
     records: &'a mut [T],
     count: usize,
     pub ghost within: { count ≤ length records.now },
-    pub ghost rising: { Rising (at_most T.Key.cmp) T.keyed (take count records.now) } by { rising_single (at_most T.Key.cmp) T.keyed (take count records.now) },
+    pub ghost rising: { Rising T.Key.Order.upto T.Keyed.keyed (take count records.now) } by { rising_single T.Key.Order.upto T.Keyed.keyed (take count records.now) },
 }
 
 impl<'a, T: Keyed> SortedSlice<'a, T>
@@ -44,8 +44,8 @@ where
 
     /// Finds the record that has the key, or `None` where no record held has it.
     pub fn find(&self, key: T::Key) -> Option<T>
-        ensures answer { result ≡ first_of (of_key (at_most T.Key.cmp) T.keyed key) (held self.now) }
-        ensures key { IfSome result (λ y. T.keyed y ≡ key) }
+        ensures answer { result ≡ first_of (of_key T.Key.Order.upto T.Keyed.keyed key) (held self.now) }
+        ensures key { IfSome result (λ y. T.Keyed.keyed y ≡ key) }
     {
         find_in(&self.records[..self.count], key)
     }
@@ -53,8 +53,8 @@ where
     /// Inserts the item at the place of its key. Refuses a key that is held already
     /// (`Reason::Repeated`), and then a slice without room (`Reason::Full`); a refusal changes nothing.
     pub fn insert(&mut self, item: T) -> Result<(), Refusal>
-        ensures answer { result ≡ insert_answer (first_of (of_key (at_most T.Key.cmp) T.keyed (T.keyed item)) (held self.old)) (has_room self.old) }
-        ensures held { held self.new ≡ (if is_ok result then inserted (at_most T.Key.cmp) T.keyed item (held self.old) else held self.old) }
+        ensures answer { result ≡ insert_answer (first_of (of_key T.Key.Order.upto T.Keyed.keyed (T.Keyed.keyed item)) (held self.old)) (has_room self.old) }
+        ensures held { held self.new ≡ (if is_ok result then inserted T.Key.Order.upto T.Keyed.keyed item (held self.old) else held self.old) }
         ensures count { self.new.count ≡ (if is_ok result then self.old.count + 1 else self.old.count) }
         ensures kept { is_ok result ≡ false → Same self.old self.new }
         ensures room { room self.new ≡ room self.old }
@@ -84,8 +84,8 @@ where
     /// Takes out the record that has the key. Refuses a key that no record held has
     /// (`Reason::Missing`), and changes nothing then.
     pub fn remove(&mut self, key: T::Key) -> Result<T, Refusal>
-        ensures answer { result ≡ ok_or (first_of (of_key (at_most T.Key.cmp) T.keyed key) (held self.old)) (refused Reason.Missing Layer.Shelf 0) }
-        ensures held { held self.new ≡ without (of_key (at_most T.Key.cmp) T.keyed key) (held self.old) }
+        ensures answer { result ≡ ok_or (first_of (of_key T.Key.Order.upto T.Keyed.keyed key) (held self.old)) (refused Reason.Missing Layer.Shelf 0) }
+        ensures held { held self.new ≡ without (of_key T.Key.Order.upto T.Keyed.keyed key) (held self.old) }
         ensures count { self.new.count ≡ (if is_ok result then length (held self.old) - 1 else self.old.count) }
         ensures kept { is_ok result ≡ false → Same self.old self.new }
         ensures room { room self.new ≡ room self.old }

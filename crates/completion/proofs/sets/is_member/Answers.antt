@@ -1,8 +1,8 @@
-use Rattle.std.proofs.Common.{◌^◌, rules}
-use borrow.Author.Tests.{tests}
-use Rattle.completion.proofs.Chains.{member_is}
+use Rattle.std.proofs.Common.{eqb, refl, rules}
+use Rattle.std.proofs.lemmas.List.Recursion.{or_is}
+use Rattle.std.proofs.iter.runs.Made.{chains}
+use Rattle.cliques.specs.Sets.{has}
 use Rattle.completion.proofs.sets.is_member.Goals as goal
 
 pub returns : goal.returns
-returns c =
-    member_is (2 ^ 16) c.try_from.result c.is_ok_and.result c.args.w c.args.set.now _ (search (rules, tests)) c.is_ok_and.ensures (λ i. search rules) (λ x k. search (rules, tests))
+returns c = or_is (λ xs. has c.args.w xs) (λ x. eqb c.args.w x) refl (λ _ _. refl) c.args.set.now 0 c.any.result (search (rules, chains)) (search (rules, chains))

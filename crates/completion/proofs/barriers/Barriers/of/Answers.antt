@@ -1,4 +1,4 @@
-use Rattle.std.proofs.Common.{◌≡◌, ◌<◌, ◌≤◌, ◌∙◌, ℕ, length, get_or, ltb, cond, replicate, ◌++◌, drop, sym, subst, arith}
+use Rattle.std.proofs.Common.{◌≡◌, ◌<◌, ◌≤◌, ◌∙◌, ℕ, length, get_or, ltb, cond, replicate, ◌++◌, drop, sym, subst, arith, rules}
 use Rattle.std.proofs.lemmas.List.{length-set, length-take-le}
 use Rattle.cliques.specs.Shortcuts.{barrier, largest_barrier}
 use Rattle.completion.proofs.Lists.{table_none, table_more, table_whole}
@@ -10,7 +10,7 @@ loop-x-init g c =
     let few = (g.T.PairTable.lawful c.args.table.now).few in
     let n = c.size.result in
     let h : n ≤ 256 = omega (arith, c.size.ensures) in (
-      c.smallest-largest.ensures,
+      search rules,
       length-take-le n (replicate 256 0) h ∙ c.size.ensures,
       λ y. table_none (barrier (g.T.PairTable.meaning c.args.table.now) c.args.set.now) n 256 y h,
     )
